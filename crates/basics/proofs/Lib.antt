@@ -1,0 +1,4 @@
+pub mod Xor
+pub mod Tests
+pub mod Lists
+pub mod Fill

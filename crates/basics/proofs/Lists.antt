@@ -1,0 +1,36 @@
+-- Laws of lists of zeros, of bytes and of entries.
+use mathlib.Core.Path.{_≡_, refl, sym, ap, _∙_}
+use mathlib.Core.List.{List, [], _∷_, _++_}
+use Prim.Native.Nat.{ℕ, zero, suc, _+_, _<_}
+use native.Mathlib.Nat.{not-suc-le-zero, le-of-suc-le-suc, add-zero, add-suc, suc-add}
+use lib.ListN.{length, getD, length-replicate}
+use Rattle.basics.specs.Lists.{zeros, Bytes, entries}
+
+pub zeros-length : (n : ℕ) → length (zeros n) ≡ n
+zeros-length n = length-replicate n 0
+
+pub zeros-snoc : (n : ℕ) → zeros n ++ 0 ∷ [] ≡ zeros (suc n)
+zeros-snoc zero = refl
+zeros-snoc (suc n) = ap (λ (l : List ℕ). 0 ∷ l) (zeros-snoc n)
+
+-- a zero behind a list is not seen
+pub zero-behind : (l : List ℕ) (k : ℕ) → getD (l ++ 0 ∷ []) k 0 ≡ getD l k 0
+zero-behind [] zero = refl
+zero-behind [] (suc k) = refl
+zero-behind (x ∷ l) zero = refl
+zero-behind (x ∷ l) (suc k) = zero-behind l k
+
+pub bytes-behind : (p q : List ℕ) → Bytes (p ++ q) → Bytes q
+bytes-behind [] q h = h
+bytes-behind (x ∷ p) q h = bytes-behind p q (h .1)
+
+pub entries-length : (f : ℕ → ℕ) (i n : ℕ) → length (entries f i n) ≡ n
+unfolding entries
+entries-length f i zero = refl
+entries-length f i (suc n) = ap suc (entries-length f (suc i) n)
+
+pub entries-at : (f : ℕ → ℕ) (i n k : ℕ) → k < n → getD (entries f i n) k 0 ≡ f (i + k)
+unfolding entries
+entries-at f i zero k h = absurd (not-suc-le-zero h)
+entries-at f i (suc n) zero h = ap f (sym (add-zero i))
+entries-at f i (suc n) (suc k) h = entries-at f (suc i) n k (le-of-suc-le-suc h) ∙ ap f (suc-add i k ∙ sym (add-suc i k))

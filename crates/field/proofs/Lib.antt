@@ -1,0 +1,4 @@
+pub mod Double
+pub mod Basis
+pub mod Laws
+pub mod Tables

@@ -1,0 +1,31 @@
+-- The field of 256 elements (2.6.3.6.3; 01, "The frame on the wire"). An element is a byte: bit k is the coefficient of x^k, sums are modulo 2 (`bitXor`),
+-- and products are modulo the field polynomial x^8 + x^7 + x^2 + x + 1.
+use Prim.Native.Nat.{ℕ, zero, suc, _*_, _/_, _%_, _^_}
+use lib.Bits.{bitXor}
+
+-- x times a, modulo a polynomial p of degree n: the number a doubled, less p where that has the bit 2^n. Numbers stand for polynomials over bits;
+-- the check sums are built on it too.
+unfoldable pub twice : ℕ → ℕ → ℕ → ℕ
+twice n p a = bitXor (a * 2) (a * 2 / 2 ^ n * p)
+
+-- x times a byte, in the field: hex 187 is the field polynomial
+unfoldable pub double : ℕ → ℕ
+unfolding twice
+double a = twice 8 0x187 a
+
+-- the k-th power of 2, which is x
+unfoldable pub power : ℕ → ℕ
+unfolding double
+power zero = 1
+power (suc k) = double (power k)
+
+-- the sum of b doubled k times, over the bits k of a that are 1, k from 0 to n - 1
+unfoldable pub sumOver : ℕ → ℕ → ℕ → ℕ
+unfolding double
+sumOver zero a b = 0
+sumOver (suc n) a b = bitXor (a % 2 * b) (sumOver n (a / 2) (double b))
+
+-- the product of two bytes
+unfoldable pub times : ℕ → ℕ → ℕ
+unfolding sumOver
+times a b = sumOver 8 a b
