@@ -5,7 +5,7 @@ use native.Mathlib.Nat.{mul-comm, zero-mul, one-mul, div-lt-iff-lt-mul, mul-lt-m
 use lib.Dec.{lit<}
 use lib.Pow.{pow-pos}
 use lib.Bits.{bitXor, xor-shr}
-use Rattle.field.specs.Field.{twice, double}
+use Rattle.field.specs.Field.{twice, fieldPolynomial, double}
 use Rattle.basics.proofs.Xor.{xor-shl, xor-cross, xor-bit-mul, bit-cases}
 
 -- the bit that leaves at the top
@@ -38,8 +38,8 @@ twice-lt n p a hp h =
 
 pub double-xor : (a b : ℕ) → a < 256 → b < 256 → double (bitXor a b) ≡ bitXor (double a) (double b)
 unfolding double
-double-xor a b ha hb = twice-xor 8 0x187 a b ha hb
+double-xor a b ha hb = twice-xor 8 fieldPolynomial a b ha hb
 
 pub double-lt : (a : ℕ) → a < 256 → double a < 256
 unfolding double
-double-lt a h = twice-lt 8 0x187 a refl h
+double-lt a h = twice-lt 8 fieldPolynomial a refl h

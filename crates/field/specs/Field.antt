@@ -8,10 +8,14 @@ use lib.Bits.{bitXor}
 unfoldable pub twice : ℕ → ℕ → ℕ → ℕ
 twice n p a = bitXor (a * 2) (a * 2 / 2 ^ n * p)
 
--- x times a byte, in the field: hex 187 is the field polynomial
+-- x^8 + x^7 + x^2 + x + 1
+abbrev pub fieldPolynomial : ℕ
+fieldPolynomial = 0x187
+
+-- x times a byte, in the field
 unfoldable pub double : ℕ → ℕ
 unfolding twice
-double a = twice 8 0x187 a
+double a = twice 8 fieldPolynomial a
 
 -- the k-th power of 2, which is x
 unfoldable pub power : ℕ → ℕ
