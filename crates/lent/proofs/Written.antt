@@ -1,0 +1,73 @@
+-- Laws of `written`, and of a loop that writes one byte a turn.
+use mathlib.Core.Path.{_≡_, sym, ap, _∙_}
+use mathlib.Core.List.{List, _++_, append-assoc, append-nil}
+use Prim.Native.Nat.{ℕ, _+_, _-_, _≤_, _<_}
+use native.Mathlib.Nat.{add-assoc, zero-add}
+use native.Mathlib.Numerals.{add-one}
+use native.Mathlib.Omega.{arith}
+use lib.ListN.{length, getD, take, drop, set, length-take, length-drop, length-append, drop-of-length-le}
+use lib.Seq.{paste, paste-zero, paste-suc, getD-append-add, getD-drop, take-at, drop-at, drop-drop, take-length, take-all}
+use Rattle.lent.specs.Written.{written}
+
+module _ (d : List ℕ) (at : ℕ) (s : List ℕ) (h : at + length s ≤ length d) where
+  head-length : length (take at d ++ s) ≡ at + length s
+  head-length = simp (length-append, length-take) (omega arith)
+
+  pub written-length : length (written d at s) ≡ length d
+  unfolding written
+  written-length = simp (length-append, length-take, length-drop) (omega arith)
+
+  pub take-written : take (at + length s) (written d at s) ≡ take at d ++ s
+  unfolding written
+  take-written = take-at (take at d ++ s) (drop (at + length s) d) (at + length s) head-length
+
+  pub drop-written : (k : ℕ) → drop (at + length s + k) (written d at s) ≡ drop (at + length s + k) d
+  unfolding written
+  drop-written k =
+      sym (drop-drop k (at + length s) (take at d ++ s ++ drop (at + length s) d))
+      ∙ ap (drop k) (drop-at (take at d ++ s) (drop (at + length s) d) (at + length s) head-length)
+      ∙ drop-drop k (at + length s) d
+
+-- one part after the other
+pub written-append : (d : List ℕ) (at : ℕ) (s t : List ℕ) → at + length s + length t ≤ length d → written (written d at s) (at + length s) t ≡ written d at (s ++ t)
+unfolding written
+written-append d at s t h =
+    ap (λ l. l ++ t ++ drop (at + length s + length t) (written d at s)) (take-written d at s (omega arith))
+    ∙ ap (λ l. (take at d ++ s) ++ t ++ l) (drop-written d at s (omega arith) (length t))
+    ∙ simp (append-assoc, length-append, add-assoc)
+
+-- what a copy into the part from at leaves of the whole
+pub copied-part : (d : List ℕ) (at : ℕ) (s : List ℕ) → at + length s ≤ length d
+    → take at d ++ ((take (length s) s ++ drop (length s) (take (length d - at) (drop at d))) ++ drop (length d - at) (drop at d)) ≡ written d at s
+unfolding written
+copied-part d at s h =
+    let e : length (drop at d) ≤ length d - at = simp length-drop (omega arith) in
+    rw (take-length s, take-all (length d - at) (drop at d) e, drop-of-length-le (drop at d) {i = length d - at} e, append-nil, drop-drop) (sym (append-assoc (take at d) s (drop (at + length s) d)))
+
+-- ---- a loop that writes s from at, one byte a turn: after j turns it is `paste d at s j` (`lib.Seq`)
+pub paste-start : (d : List ℕ) (at : ℕ) (s : List ℕ) → d ≡ paste d at s 0
+paste-start d at s = paste-zero d at s
+
+pub paste-turn : (d : List ℕ) (at : ℕ) (s : List ℕ) (j v : ℕ) → at + j < length d → j < length s → v ≡ getD s j 0 → set (paste d at s j) (at + j) v ≡ paste d at s (j + 1)
+paste-turn d at s j v hd hs e = rw (e, add-one j) (paste-suc d at s j 0 hd hs)
+
+pub paste-end : (d : List ℕ) (at : ℕ) (s : List ℕ) (j : ℕ) → j ≡ length s → paste d at s j ≡ written d at s
+unfolding written
+paste-end d at s j e = rw (e, take-length)
+
+-- a byte that was not reached yet
+pub paste-later : (d : List ℕ) (at : ℕ) (s : List ℕ) (j k : ℕ) → at + j ≤ length d → j ≤ length s → at + j ≤ k → getD (paste d at s j) k 0 ≡ getD d k 0
+paste-later d at s j k hd hs h =
+    let e : at + j + (k - (at + j)) ≡ k = omega arith in
+    let p : List ℕ = take at d ++ take j s in
+    let l : length p ≡ at + j = simp (length-append, length-take) (omega arith) in
+    let a : getD (p ++ drop (at + j) d) (length p + (k - (at + j))) 0 ≡ getD (drop (at + j) d) (k - (at + j)) 0 = getD-append-add p (drop (at + j) d) (k - (at + j)) 0 in
+    (rw (l, e) at a) ∙ rw (getD-drop, e)
+
+-- a part before one that stands already
+pub written-before : (d : List ℕ) (s t : List ℕ) (k : ℕ) → length s ≡ k → k + length t ≤ length d → written (written d k t) 0 s ≡ written d 0 (s ++ t)
+unfolding written
+written-before d s t k e h =
+    rw (zero-add, zero-add, e)
+    (ap (λ l. s ++ l) (ap (drop k) (append-assoc (take k d) t (drop (k + length t) d)) ∙ drop-at (take k d) (t ++ drop (k + length t) d) k (simp length-take (omega arith)))
+    ∙ rw (length-append, e) (sym (append-assoc s t (drop (k + length t) d))))
