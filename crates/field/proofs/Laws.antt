@@ -146,6 +146,9 @@ pub one-times : (b : ℕ) → b < 256 → times 1 b ≡ b
 unfolding one-test
 one-times = agree 8 (times 1) (λ b. b) (right 1) (λ a c ha hc. refl) (λ j hj. eqb→eq (times 1 (2 ^ j)) (2 ^ j) (below 8 one-test one-tests j hj))
 
+pub times-one : (a : ℕ) → a < 256 → times a 1 ≡ a
+times-one a h = times-comm a 1 h (lit< tt) ∙ one-times a h
+
 pub two-times : (b : ℕ) → b < 256 → times 2 b ≡ double b
 unfolding two-test
 two-times = agree 8 (times 2) double (right 2) double-xor (λ j hj. eqb→eq (times 2 (2 ^ j)) (double (2 ^ j)) (below 8 two-test two-tests j hj))
@@ -179,7 +182,7 @@ unfolding power double twice
 power-255 = refl
 
 pub power-round : (k : ℕ) → power (k + 255) ≡ power k
-power-round k = sym (power-add k 255) ∙ ap (times (power k)) power-255 ∙ times-comm (power k) 1 (power-lt k) (lit< tt) ∙ one-times (power k) (power-lt k)
+power-round k = sym (power-add k 255) ∙ ap (times (power k)) power-255 ∙ times-one (power k) (power-lt k)
 
 -- the product of two bytes by their logarithms
 pub product-low : {a b : ℕ} (i j : ℕ) → power i ≡ a → power j ≡ b → times a b ≡ power (i + j)

@@ -1,0 +1,32 @@
+-- The Reed-Solomon code (2.6.3.6.3; 01, "The frame on the wire"): words of 255 bytes, 239 of data and then 16 of parity, the first byte the highest power.
+use mathlib.Core.Path.{_≡_}
+use mathlib.Core.List.{List, [], _∷_, _++_, tail}
+use Prim.Native.Nat.{ℕ, zero, suc, _-_, _*_}
+use lib.ListN.{length}
+use Rattle.basics.specs.Lists.{zeros}
+use Rattle.field.specs.Field.{power, times}
+use Rattle.division.specs.Division.{product, remainder, check}
+
+-- the product of n factors x - 2^(11 j), j from i on; a difference is a sum here
+unfoldable pub factors : ℕ → ℕ → List ℕ
+factors zero i = 1 ∷ []
+factors (suc n) i = product times (1 ∷ power (11 * i) ∷ []) (factors n (suc i))
+
+-- the generator: its 16 roots are 2 to the power 11 j, j from 120 to 135
+unfoldable pub generator : List ℕ
+unfolding factors
+generator = factors 16 120
+
+-- the 16 parity bytes of data of any length: the remainder of the data times x^16 by the generator, whose leading coefficient is 1
+unfoldable pub parity : List ℕ → List ℕ
+unfolding generator
+parity message = check times (tail generator) message
+
+-- a codeword: 255 bytes that the generator divides
+unfoldable pub Codeword : List ℕ → Type 0
+unfolding generator
+Codeword word = (length word ≡ 255) × (remainder times (tail generator) 239 word ≡ zeros 16)
+
+-- a shorter word with the zeros in front that are not sent, 223 of them for the header
+unfoldable pub lengthened : List ℕ → List ℕ
+lengthened word = zeros (255 - length word) ++ word
