@@ -1,6 +1,8 @@
 -- Lists of numbers, as every crate speaks of them: what a buffer holds, or the coefficients of a polynomial.
+use mathlib.Core.Bool.{Bool, true, false, _&&_}
 use mathlib.Core.List.{List, [], _∷_}
 use Prim.Native.Nat.{ℕ, zero, suc, _<_}
+use lib.Dec.{eqb}
 use lib.ListN.{replicate}
 
 -- n zeros
@@ -16,3 +18,15 @@ Bytes (b ∷ bs) = (b < 256) × Bytes bs
 unfoldable pub entries : (ℕ → ℕ) → ℕ → ℕ → List ℕ
 entries f i zero = []
 entries f i (suc n) = f i ∷ entries f (suc i) n
+
+-- whether two lists are the same
+unfoldable pub same : List ℕ → List ℕ → Bool
+same [] [] = true
+same [] (y ∷ ys) = false
+same (x ∷ xs) [] = false
+same (x ∷ xs) (y ∷ ys) = eqb x y && same xs ys
+
+-- whether a test passes at each number below n
+abbrev pub allBelow : ℕ → (ℕ → Bool) → Bool
+allBelow zero f = true
+allBelow (suc n) f = f n && allBelow n f

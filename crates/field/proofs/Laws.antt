@@ -9,7 +9,8 @@ use lib.Pow.{pow-lt}
 use lib.Bits.{bitXor, xor-lt, xor-mod}
 use Rattle.field.specs.Field.{twice, double, power, sumOver, times}
 use Rattle.basics.proofs.Xor.{xor-half, xor-cross, xor-bit-mul, bit-cases}
-use Rattle.basics.proofs.Tests.{allBelow, below}
+use Rattle.basics.specs.Lists.{allBelow}
+use Rattle.basics.proofs.Tests.{below}
 use Rattle.field.proofs.Basis.{Additive, agree, additive-zero}
 use Rattle.field.proofs.Double.{double-xor, double-lt}
 

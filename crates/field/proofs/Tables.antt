@@ -6,7 +6,8 @@ use Prim.Native.Nat.{ℕ, zero, suc, _+_, _-_, _<_}
 use native.Mathlib.Nat.{add-zero, add-suc, suc-add, zero-add, le-of-suc-le-suc, not-suc-le-zero, sub-add-cancel, le-of-lt}
 use lib.Dec.{T, eqb, ltb, eqb→eq, ltb→lt}
 use lib.ListN.{getD}
-use Rattle.basics.proofs.Tests.{and-left, and-right, allBelow, below}
+use Rattle.basics.specs.Lists.{allBelow}
+use Rattle.basics.proofs.Tests.{and-left, and-right, below}
 use Rattle.basics.proofs.Lists.{entries-at}
 use Rattle.field.specs.Field.{twice, double, power, times}
 use Rattle.field.specs.Tables.{doublings, powerTable, placeOf, logarithm, logarithmTable}

@@ -17,8 +17,8 @@ use Rattle.basics.proofs.Lists.{bytes-behind}
 use Rattle.division.specs.Division.{plus}
 use Rattle.division.proofs.Register.{plus-zero-eq, plus-length}
 use Rattle.division.proofs.Linear.{remainder-plus}
-use Rattle.reed_solomon.specs.Code.{generator, Codeword}
-use Rattle.reed_solomon.proofs.Laws.{codeword-length}
+use Rattle.reed_solomon.specs.Code.{generator}
+use Rattle.reed_solomon.proofs.Laws.{Codeword, codeword-length}
 use Rattle.reed_solomon.proofs.Roots.{plus-bytes, terms, codeword-terms}
 use Rattle.reed_solomon.proofs.Places.{locator, locator-other, power-pos, takenOut, taken-length, taken-bytes, diff-lt, taken-terms, filled, filled-le, weight, weight-less, AllZero}
 

@@ -1,21 +1,23 @@
 -- The eight words of a payload: all of them are codewords exactly where the payload is its data, coded; and the code's eight writes give that.
 use mathlib.Core.Path.{_≡_, refl, sym, ap, ap₂, _∙_, subst}
 use mathlib.Core.Logic.{⊎-elim}
+use mathlib.Core.Bool.{true}
 use mathlib.Core.List.{List, [], _∷_, _++_}
 use Prim.Native.Nat.{ℕ, zero, suc, _+_, _-_, _*_, _/_, _%_, _≤_, _<_}
 use native.Mathlib.Nat.{not-suc-le-zero, le-of-suc-le-suc, add-zero, zero-add, eq-or-lt-of-le, mod-lt}
 use native.Mathlib.Numerals.{add-one}
 use native.Mathlib.Omega.{arith}
-use lib.Dec.{lit<}
+use lib.Dec.{lit<, eqb}
+use borrow.Author.Tests.{eq-eqb, eqb-true}
 use lib.ListN.{length, getD, set, take, drop, drop-of-length-le, length-set, length-append, List·getD-append}
 use lib.Seq.{drop-cons, getD-set-same, getD-set-other, ext-getD, length-take-le, getD-take, getD-append-add}
-use Rattle.basics.specs.Lists.{entries}
-use Rattle.basics.proofs.Tests.{lt-or-ge}
+use Rattle.basics.specs.Lists.{entries, allBelow}
+use Rattle.basics.proofs.Tests.{lt-or-ge, both-true, left-true, right-true, below-true, all-below}
 use Rattle.basics.proofs.Lists.{entries-length, entries-at}
-use Rattle.reed_solomon.specs.Code.{parity, Codeword, lengthened}
-use Rattle.reed_solomon.specs.Payload.{everyEighth, parityByte, codedPayload, Codewords}
+use Rattle.reed_solomon.specs.Code.{parity, isCodeword, lengthened}
+use Rattle.reed_solomon.specs.Payload.{everyEighth, parityByte, codedPayload, areCodewords}
 use Rattle.reed_solomon.specs.Word.{spread, withParity}
-use Rattle.reed_solomon.proofs.Laws.{parity-length, lengthened-whole, by-places, at-place}
+use Rattle.reed_solomon.proofs.Laws.{Codeword, codeword-true, true-codeword, parity-length, lengthened-whole, by-places, at-place}
 
 -- ---- every eighth byte, read
 
@@ -195,8 +197,29 @@ module _ (l : List ℕ) (k : ℕ) where
       ∙ ap (λ (q : List ℕ). getD (parity q) j 0) (take-eighth 239 255 k l (lib.Dec.lit≤ tt))
 
 -- the word that the code gathers, as the code judges it
-pub in-code : (l : List ℕ) (k : ℕ) (gathered : List ℕ) → gathered ≡ everyEighth 255 k l → everyEighth 255 k l ≡ lengthened gathered
-in-code l k gathered e = sym (ap lengthened e ∙ lengthened-whole (everyEighth 255 k l) (eighth-length 255 k l))
+pub in-code : (l : List ℕ) (k : ℕ) (gathered : List ℕ) → gathered ≡ everyEighth 255 k l → isCodeword (lengthened gathered) ≡ isCodeword (everyEighth 255 k l)
+in-code l k gathered e = ap isCodeword (ap lengthened e ∙ lengthened-whole (everyEighth 255 k l) (eighth-length 255 k l))
+
+-- what the test says of a payload
+pub record Codewords (payload : List ℕ) : Type 0 where
+  pub long : length payload ≡ 2040
+  pub each : (k : ℕ) → k < 8 → Codeword (everyEighth 255 k payload)
+
+pub codewords-true : (payload : List ℕ) → Codewords payload → areCodewords payload ≡ true
+unfolding areCodewords
+codewords-true payload c =
+    both-true (eqb (length payload) 2040) (allBelow 8 (λ k. isCodeword (everyEighth 255 k payload))) (eq-eqb (length payload) 2040 (c .long))
+    (all-below 8 (λ k. isCodeword (everyEighth 255 k payload)) (λ k h. codeword-true (everyEighth 255 k payload) (c .each k h)))
+
+pub true-codewords : (payload : List ℕ) → areCodewords payload ≡ true → Codewords payload
+unfolding areCodewords
+true-codewords payload e =
+    let long = eqb (length payload) 2040 in
+    let each = allBelow 8 (λ k. isCodeword (everyEighth 255 k payload)) in
+    record {
+      long = eqb-true (length payload) 2040 (left-true long each e);
+      each = λ k h. true-codeword (everyEighth 255 k payload) (below-true 8 (λ k. isCodeword (everyEighth 255 k payload)) (right-true long each e) k h);
+    }
 
 pub codewords-coded : (payload : List ℕ) → Codewords payload → payload ≡ codedPayload (take 1912 payload)
 codewords-coded payload c =

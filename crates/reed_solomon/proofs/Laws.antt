@@ -1,22 +1,25 @@
 -- The register of the code, place by place; a word is a codeword exactly where its last 16 bytes are the parity of the others; zeros in front.
 use mathlib.Core.Path.{_≡_, refl, sym, ap, ap₂, _∙_, subst}
+use mathlib.Core.Bool.{true}
 use mathlib.Core.List.{List, [], _∷_, _++_, tail, append-assoc}
 use Prim.Native.Nat.{ℕ, _+_, _-_, _≤_, _<_}
 use native.Mathlib.Nat.{le-of-eq}
 use native.Mathlib.Numerals.{add-one}
 use native.Mathlib.Omega.{arith}
-use lib.Dec.{lit<}
+use lib.Dec.{lit<, eqb}
+use borrow.Author.Tests.{eq-eqb, eqb-true}
 use lib.Bits.{bitXor, xor-zero-r}
 use lib.ListN.{length, getD, List·getD-eq-default, length-append, take, drop, length-drop, take-append-drop}
 use lib.Seq.{length-take-le, ext-getD, getD-drop, take-at, drop-at}
-use Rattle.basics.specs.Lists.{zeros}
+use Rattle.basics.specs.Lists.{zeros, same}
+use Rattle.basics.proofs.Tests.{both-true, left-true, right-true, same-true, same-self}
 use Rattle.basics.proofs.Lists.{zeros-length}
 use Rattle.field.specs.Field.{times}
 use Rattle.field.proofs.Laws.{zero-times, times-xor-left}
 use Rattle.division.specs.Division.{plus, remainder}
 use Rattle.division.proofs.Register.{step, step-getD, step-length, feed, feed-length, check-feed, word-remainder, plus-self, plus-zero-eq, check-zeros}
 use Rattle.division.proofs.Linear.{check-plus}
-use Rattle.reed_solomon.specs.Code.{generator, parity, Codeword, lengthened}
+use Rattle.reed_solomon.specs.Code.{generator, parity, isCodeword, lengthened}
 use Rattle.reed_solomon.proofs.Generator.{generator-is}
 
 pub generator-length : length (tail generator) ≡ 16
@@ -71,6 +74,23 @@ unfolding parity
 parity-plus m n e = check-plus times times-xor-left (tail generator) m n e
 
 -- ---- codewords
+
+-- what the test says of a word
+unfoldable pub Codeword : List ℕ → Type 0
+Codeword word = (length word ≡ 255) × (remainder times (tail generator) 239 word ≡ zeros 16)
+
+pub codeword-true : (word : List ℕ) → Codeword word → isCodeword word ≡ true
+unfolding Codeword isCodeword
+codeword-true word c =
+    both-true (eqb (length word) 255) (same (remainder times (tail generator) 239 word) (zeros 16)) (eq-eqb (length word) 255 (c .0))
+    (subst (λ (l : List ℕ). same l (zeros 16) ≡ true) (sym (c .1)) (same-self (zeros 16)))
+
+pub true-codeword : (word : List ℕ) → isCodeword word ≡ true → Codeword word
+unfolding Codeword isCodeword
+true-codeword word e =
+    let long = eqb (length word) 255 in
+    let none = same (remainder times (tail generator) 239 word) (zeros 16) in
+    (eqb-true (length word) 255 (left-true long none e), same-true (remainder times (tail generator) 239 word) (zeros 16) (right-true long none e))
 
 pub codeword-length : (word : List ℕ) → Codeword word → length word ≡ 255
 unfolding Codeword

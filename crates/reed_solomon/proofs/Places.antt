@@ -11,7 +11,8 @@ use lib.ListN.{length, getD}
 use Rattle.field.specs.Field.{power, times, double, twice}
 use Rattle.field.specs.Tables.{powerTable, doublings}
 use Rattle.basics.proofs.Xor.{xor-cross, xor-zero-eq}
-use Rattle.basics.proofs.Tests.{allBelow, below}
+use Rattle.basics.specs.Lists.{allBelow}
+use Rattle.basics.proofs.Tests.{below}
 use Rattle.field.proofs.Laws.{times-xor-left, times-xor-right, times-lt, times-comm, times-assoc, times-one, zero-times, times-zero, two-times, power-lt, power-add, power-round}
 use Rattle.field.proofs.Tables.{power-at, no-zero-divisors}
 use Rattle.basics.specs.Lists.{Bytes}

@@ -10,14 +10,16 @@ use lib.Bits.{bitXor, xor-lt, xor-self, xor-zero-r}
 use lib.ListN.{length}
 use Rattle.field.specs.Field.{power, times, sumOver, double, twice}
 use Rattle.basics.proofs.Xor.{xor-cross, xor-assoc}
-use Rattle.basics.proofs.Tests.{allBelow, below}
+use Rattle.basics.specs.Lists.{allBelow}
+use Rattle.basics.proofs.Tests.{below}
 use Rattle.field.proofs.Laws.{times-xor-left, times-xor-right, times-lt, times-assoc, times-one, zero-times, times-zero, power-lt, power-add}
 use Rattle.basics.specs.Lists.{zeros, Bytes}
 use Rattle.division.specs.Division.{plus, scale, remainder}
 use Rattle.division.proofs.Register.{scale-length}
 use Rattle.division.proofs.Identity.{plus-length-le}
-use Rattle.reed_solomon.specs.Code.{generator, Codeword}
+use Rattle.reed_solomon.specs.Code.{generator}
 use Rattle.reed_solomon.proofs.Generator.{coefficients, generator-is}
+use Rattle.reed_solomon.proofs.Laws.{Codeword}
 
 -- the value at x of a polynomial whose coefficients before those of the list have the value a
 unfoldable pub value : ℕ → ℕ → List ℕ → ℕ

@@ -1,9 +1,10 @@
 -- The Reed-Solomon code (2.6.3.6.3; 01, "The frame on the wire"): words of 255 bytes, 239 of data and then 16 of parity, the first byte the highest power.
-use mathlib.Core.Path.{_≡_}
+use mathlib.Core.Bool.{Bool, _&&_}
 use mathlib.Core.List.{List, [], _∷_, _++_, tail}
 use Prim.Native.Nat.{ℕ, zero, suc, _-_, _*_}
+use lib.Dec.{eqb}
 use lib.ListN.{length}
-use Rattle.basics.specs.Lists.{zeros}
+use Rattle.basics.specs.Lists.{zeros, same}
 use Rattle.field.specs.Field.{power, times}
 use Rattle.division.specs.Division.{product, remainder, check}
 
@@ -22,10 +23,9 @@ unfoldable pub parity : List ℕ → List ℕ
 unfolding generator
 parity message = check times (tail generator) message
 
--- a codeword: 255 bytes that the generator divides
-unfoldable pub Codeword : List ℕ → Type 0
-unfolding generator
-Codeword word = (length word ≡ 255) × (remainder times (tail generator) 239 word ≡ zeros 16)
+-- whether a word is a codeword: 255 bytes that the generator divides
+unfoldable pub isCodeword : List ℕ → Bool
+isCodeword word = eqb (length word) 255 && same (remainder times (tail generator) 239 word) (zeros 16)
 
 -- a shorter word with the zeros in front that are not sent, 223 of them for the header
 unfoldable pub lengthened : List ℕ → List ℕ

@@ -1,11 +1,12 @@
 -- The eight interleaved codewords of a payload (01, "Payload"): byte k belongs to codeword k mod 8 at place k div 8, the 1,912 bytes of data and the 128
 -- parity bytes alike.
-use mathlib.Core.Path.{_≡_}
+use mathlib.Core.Bool.{Bool, _&&_}
 use mathlib.Core.List.{List, [], _∷_, _++_}
-use Prim.Native.Nat.{ℕ, zero, suc, _+_, _/_, _%_, _<_}
+use Prim.Native.Nat.{ℕ, zero, suc, _+_, _/_, _%_}
+use lib.Dec.{eqb}
 use lib.ListN.{length, getD}
-use Rattle.basics.specs.Lists.{entries}
-use Rattle.reed_solomon.specs.Code.{parity, Codeword}
+use Rattle.basics.specs.Lists.{entries, allBelow}
+use Rattle.reed_solomon.specs.Code.{parity, isCodeword}
 
 -- n bytes of a list, every eighth from k on
 unfoldable pub everyEighth : ℕ → ℕ → List ℕ → List ℕ
@@ -20,7 +21,6 @@ parityByte message k = getD (parity (everyEighth 239 (k % 8) message)) (k / 8) 0
 unfoldable pub codedPayload : List ℕ → List ℕ
 codedPayload message = message ++ entries (parityByte message) 0 128
 
--- a payload all eight words of which are codewords
-pub record Codewords (payload : List ℕ) : Type 0 where
-  pub long : length payload ≡ 2040
-  pub each : (k : ℕ) → k < 8 → Codeword (everyEighth 255 k payload)
+-- whether all eight words of a payload are codewords
+unfoldable pub areCodewords : List ℕ → Bool
+areCodewords payload = eqb (length payload) 2040 && allBelow 8 (λ k. isCodeword (everyEighth 255 k payload))

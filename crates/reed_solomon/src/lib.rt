@@ -3,12 +3,10 @@ pub mod payload;
 mod register;
 
 ghost use mathlib.Core.Path.{_≡_};
-ghost use mathlib.Core.Bool.{true};
-ghost use mathlib.Core.Logic.{_↔_};
 ghost use Prim.Native.Nat.{_≤_};
 ghost use lib.ListN.{length};
 ghost use Rattle.field.specs.Tables.{powerTable, logarithmTable};
-ghost use Rattle.reed_solomon.specs.Code.{parity, Codeword, lengthened};
+ghost use Rattle.reed_solomon.specs.Code.{parity, isCodeword, lengthened};
 
 // The 16 parity bytes of some data.
 pub fn parity_of(message: &[u8]) -> [u8; 16]
@@ -22,7 +20,7 @@ pub fn parity_of(message: &[u8]) -> [u8; 16]
 // Whether a word, with the zeros in front that are not sent, is a codeword.
 pub fn is_codeword(word: &[u8]) -> bool
     requires { ⌜ 16 ≤ length (now word) ⌝ }
-    ensures { λ r. ⌜ (r ≡ true) ↔ Codeword (lengthened (now (word .entry))) ⌝ }
+    ensures { λ r. ⌜ r ≡ isCodeword (lengthened (now (word .entry))) ⌝ }
 {
     let powers = field::powers::table();
     let logarithms = field::logarithms::table();
@@ -31,7 +29,7 @@ pub fn is_codeword(word: &[u8]) -> bool
 
 fn is_word_of_code(powers: &[u8; 255], logarithms: &[u8; 256], word: &[u8]) -> bool
     requires { ⌜ (now powers ≡ powerTable) × (now logarithms ≡ logarithmTable) × (16 ≤ length (now word)) ⌝ }
-    ensures { λ r. ⌜ (r ≡ true) ↔ Codeword (lengthened (now (word .entry))) ⌝ }
+    ensures { λ r. ⌜ r ≡ isCodeword (lengthened (now (word .entry))) ⌝ }
 {
     if 255 < word.len() {
         return false;

@@ -2,13 +2,10 @@
 use crate::is_word_of_code;
 use crate::register;
 ghost use mathlib.Core.Path.{_≡_};
-ghost use mathlib.Core.Bool.{true};
-ghost use mathlib.Core.Logic.{_↔_};
 ghost use Prim.Native.Nat.{_<_};
 ghost use lib.ListN.{length, take};
 ghost use Rattle.field.specs.Tables.{powerTable, logarithmTable};
-ghost use Rattle.reed_solomon.specs.Code.{Codeword};
-ghost use Rattle.reed_solomon.specs.Payload.{everyEighth, codedPayload, Codewords};
+ghost use Rattle.reed_solomon.specs.Payload.{everyEighth, codedPayload, areCodewords};
 ghost use Rattle.reed_solomon.specs.Word.{withParity};
 
 // Writes the 128 parity bytes of the eight words behind the 1,912 bytes of data.
@@ -27,7 +24,7 @@ pub fn write_parity(payload: &mut [u8])
 
 // Whether all eight words are codewords.
 pub fn are_codewords(payload: &[u8]) -> bool
-    ensures { λ r. ⌜ (r ≡ true) ↔ Codewords (now (payload .entry)) ⌝ }
+    ensures { λ r. ⌜ r ≡ areCodewords (now (payload .entry)) ⌝ }
 {
     if payload.len() != 2040 {
         return false;

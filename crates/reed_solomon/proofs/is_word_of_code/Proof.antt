@@ -1,13 +1,13 @@
 use borrow.Author.Needs.{needs}
 use native.Mathlib.Omega.{arith}
-use mathlib.Core.Path.{_≡_, refl, sym, ap, _∙_}
-use mathlib.Core.Bool.{true, false, false≢true}
+use mathlib.Core.Path.{_≡_, sym, ap, _∙_}
 use Prim.Native.Nat.{ℕ, _+_, _-_, _≤_, _<_}
 use borrow.Author.Count.{below-more}
 use lib.ListN.{length, getD, take}
 use lib.Seq.{length-take-le}
 use Rattle.reed_solomon.specs.Code as code
-use Rattle.reed_solomon.proofs.Laws.{too-long, by-places, at-place}
+use Rattle.basics.proofs.Tests.{never-true}
+use Rattle.reed_solomon.proofs.Laws.{codeword-true, true-codeword, too-long, by-places, at-place}
 use Rattle.reed_solomon.proofs.is_word_of_code.Statement.{statement}
 use Rattle.reed_solomon.proofs.is_word_of_code.Tie as tie
 
@@ -21,7 +21,7 @@ returns : tie.Need-returns Inv-loop μ-loop
 returns c =
     let at-args = c .before .before .args in
     let at-if1 = c .if1 in
-    (λ e. absurd (false≢true e), λ w. absurd (too-long (at-args .word .now) (at-if1 .taken) w))
+    never-true _ (λ e. too-long (at-args .word .now) (at-if1 .taken) (true-codeword _ e))
 
 sub-end : tie.Need-sub-end Inv-loop μ-loop
 sub-end c = search needs
@@ -52,10 +52,9 @@ returns-2 : tie.Need-returns-2 Inv-loop μ-loop
 returns-2 c =
     let at-if2 = c .if2 in
     let at-loop = c .before .before .before .loop in
-    let at-args = c .before .before .before .before .before .before .before .before .args in (
-      λ e. absurd (false≢true e),
-      λ w. absurd ((at-if2 .taken) (ap (λ p. getD p (at-loop .i) 0) (at-loop .inv .4) ∙ at-place (at-args .word .now) _ (at-loop .inv .2) (at-loop .inv .1) w (at-loop .i))),
-    )
+    let at-args = c .before .before .before .before .before .before .before .before .args in
+    never-true _
+    (λ e. (at-if2 .taken) (ap (λ p. getD p (at-loop .i) 0) (at-loop .inv .4) ∙ at-place (at-args .word .now) _ (at-loop .inv .2) (at-loop .inv .1) (true-codeword _ e) (at-loop .i)))
 
 add-i : tie.Need-add-i Inv-loop μ-loop
 add-i c = search needs
@@ -72,10 +71,8 @@ loop-again c =
 returns-3 : tie.Need-returns-3 Inv-loop μ-loop
 returns-3 c =
     let at-args = c .before .before .before .before .before .before .args in
-    let at-loop = c .before .loop in (
-      λ _. by-places (at-args .word .now) _ (at-loop .inv .2) (at-loop .inv .1) (λ k h. ap (λ p. getD p k 0) (sym (at-loop .inv .4)) ∙ (at-loop .inv .5) k (omega arith)),
-      λ _. refl,
-    )
+    let at-loop = c .before .loop in
+    sym (codeword-true _ (by-places (at-args .word .now) _ (at-loop .inv .2) (at-loop .inv .1) (λ k h. ap (λ p. getD p k 0) (sym (at-loop .inv .4)) ∙ (at-loop .inv .5) k (omega arith))))
 
 pub is-word-of-code-spec : {M : Type 1} → statement M
 is-word-of-code-spec =

@@ -1,20 +1,22 @@
 use borrow.Author.Needs.{needs}
 use native.Mathlib.Omega.{arith}
-use mathlib.Core.Path.{_≡_, refl, sym, ap, _∙_, subst}
-use mathlib.Core.Bool.{true, false, false≢true}
+use mathlib.Core.Path.{_≡_, sym, ap, _∙_}
+use mathlib.Core.Bool.{true, false≢true}
 use Prim.Native.Nat.{ℕ, _≤_, _<_, _-_}
 use borrow.Author.Count.{below-more}
 use borrow.Author.Tests.{not-true, not-false}
 use lib.ListN.{length}
+use Rattle.basics.proofs.Tests.{never-true}
 use Rattle.field.specs.Tables.{powerTable, logarithmTable}
-use Rattle.reed_solomon.specs.Code.{Codeword}
+use Rattle.reed_solomon.specs.Code.{isCodeword}
 use Rattle.reed_solomon.specs.Payload.{everyEighth}
-use Rattle.reed_solomon.proofs.Interleaved.{eighth-length, in-code}
+use Rattle.reed_solomon.proofs.Laws.{codeword-true, true-codeword}
+use Rattle.reed_solomon.proofs.Interleaved.{eighth-length, in-code, codewords-true, true-codewords}
 use Rattle.reed_solomon.proofs.payload.are_codewords.Statement.{statement}
 use Rattle.reed_solomon.proofs.payload.are_codewords.Tie as tie
 
 abbrev Inv-loop : tie.InvT-loop
-Inv-loop payload powers logarithms k₀ k = (k ≤ 8) × (length payload ≡ 2040) × (powers ≡ powerTable) × (logarithms ≡ logarithmTable) × ((m : ℕ) → m < k → Codeword (everyEighth 255 m payload))
+Inv-loop payload powers logarithms k₀ k = (k ≤ 8) × (length payload ≡ 2040) × (powers ≡ powerTable) × (logarithms ≡ logarithmTable) × ((m : ℕ) → m < k → isCodeword (everyEighth 255 m payload) ≡ true)
 
 abbrev μ-loop : tie.MeasureT-loop
 μ-loop payload powers logarithms k₀ k = 8 - k
@@ -22,7 +24,7 @@ abbrev μ-loop : tie.MeasureT-loop
 returns : tie.Need-returns Inv-loop μ-loop
 returns c =
     let at-if1 = c .if1 in
-    (λ e. absurd (false≢true e), λ w. absurd ((at-if1 .taken) (w .long)))
+    never-true _ (λ e. (at-if1 .taken) (true-codewords _ e .long))
 
 table-requires : tie.Need-table-requires Inv-loop μ-loop
 table-requires c κs = search needs
@@ -56,10 +58,10 @@ returns-2 c =
     let at-args = c .before .before .before .before .before .before .before .before .before .before .before .before .args in
     let at-loop = c .before .before .before .before .before .before .before .loop in
     let at-gathered = c .before .before .before .before .before .gathered in
-    let at-loop-test = c .before .before .before .before .before .before .loop-test in (
-      λ e. absurd (false≢true e),
-      λ w. absurd (false≢true (sym (not-true _ (at-if2 .taken)) ∙ (at-is-word-of-code .ensures .1) (subst Codeword (in-code (at-args .payload .now) (at-loop .k) (at-gathered .result) (at-gathered .ensures)) (w .each (at-loop .k) (at-loop-test .taken))))),
-    )
+    let at-loop-test = c .before .before .before .before .before .before .loop-test in
+    never-true _ (λ e.
+    false≢true (sym (not-true _ (at-if2 .taken)) ∙ (at-is-word-of-code .ensures) ∙ in-code (at-args .payload .now) (at-loop .k) (at-gathered .result) (at-gathered .ensures)
+    ∙ codeword-true _ (true-codewords _ e .each (at-loop .k) (at-loop-test .taken))))
 
 add-k : tie.Need-add-k Inv-loop μ-loop
 add-k c = search needs
@@ -78,14 +80,14 @@ loop-again c =
       (at-loop .inv .1),
       (at-loop .inv .2),
       (at-loop .inv .3),
-      below-more (λ m. Codeword (everyEighth 255 m (at-args .payload .now))) (at-loop .k) (at-loop .inv .4)
-          (subst Codeword (sym (in-code (at-args .payload .now) (at-loop .k) (at-gathered .result) (at-gathered .ensures))) ((at-is-word-of-code .ensures .0) (not-false _ (at-if2 .left)))),
+      below-more (λ m. isCodeword (everyEighth 255 m (at-args .payload .now)) ≡ true) (at-loop .k) (at-loop .inv .4)
+          (sym (in-code (at-args .payload .now) (at-loop .k) (at-gathered .result) (at-gathered .ensures)) ∙ sym (at-is-word-of-code .ensures) ∙ not-false _ (at-if2 .left)),
     )
 
 returns-3 : tie.Need-returns-3 Inv-loop μ-loop
 returns-3 c =
     let at-loop = c .before .loop in
-    (λ _. record { long = (at-loop .inv .1); each = λ m h. (at-loop .inv .4) m (omega arith) }, λ _. refl)
+    sym (codewords-true _ (record { long = (at-loop .inv .1); each = λ m h. true-codeword _ ((at-loop .inv .4) m (omega arith)) }))
 
 pub are-codewords-spec : {M : Type 1} → statement M
 are-codewords-spec =
