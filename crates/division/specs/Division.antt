@@ -1,5 +1,5 @@
 -- Polynomials and their long division. A polynomial is the list of its coefficients, the highest power first, over any field whose sum is modulo 2
--- (`bitXor`) and whose product is `times`: the bytes of the Reed-Solomon code (2.6.3.6.3), the bits of the check sums (Table 2-15).
+-- (`bitXor`) and whose product is `times`: the bytes of the Reed-Solomon code (2.6.3.6.3), the bits of the check sums (2.6.3.6.1, Table 2-15).
 use mathlib.Core.List.{List, [], _∷_, _++_}
 use Prim.Native.Nat.{ℕ, zero, suc}
 use lib.Bits.{bitXor}

@@ -27,6 +27,6 @@ parity message = check times (tail generator) message
 unfoldable pub isCodeword : List ℕ → Bool
 isCodeword word = eqb (length word) 255 && same (remainder times (tail generator) 239 word) (zeros 16)
 
--- a shorter word with the zeros in front that are not sent, 223 of them for the header
+-- a shorter word with the zeros in front that are not sent, 223 of them for the header (2.6.3.6.2)
 unfoldable pub lengthened : List ℕ → List ℕ
 lengthened word = zeros (255 - length word) ++ word
