@@ -1,0 +1,46 @@
+-- Scrambling as frames use it: it is its own inverse, keeps the length, and goes on from part to part.
+use mathlib.Core.Path.{_≡_, refl, sym, ap, ap₂, _∙_}
+use mathlib.Core.List.{List, [], _∷_, _++_}
+use Prim.Native.Nat.{ℕ, suc, _+_, _*_}
+use native.Mathlib.Omega.{arith}
+use lib.Bits.{bitXor, xor-comm}
+use lib.ListN.{length}
+use Rattle.basics.proofs.Xor.{xor-cancel}
+use Rattle.scrambler.specs.Scrambler.{after, firstStages, key, scrambledFrom, scrambled}
+use Rattle.scrambler.proofs.Stages.{after-add}
+
+pub scrambled-from-twice : (taps stages : ℕ) (bytes : List ℕ) → scrambledFrom taps stages (scrambledFrom taps stages bytes) ≡ bytes
+unfolding scrambledFrom
+scrambled-from-twice taps stages [] = refl
+scrambled-from-twice taps stages (b ∷ bytes) =
+    let k = key taps 8 stages in
+    ap₂ (λ (x : ℕ) (l : List ℕ). x ∷ l) (ap (λ (x : ℕ). bitXor x k) (xor-comm b k) ∙ xor-comm (bitXor k b) k ∙ xor-cancel k b)
+    (scrambled-from-twice taps (after taps 8 stages) bytes)
+
+pub scrambled-twice : (taps : ℕ) (bytes : List ℕ) → scrambled taps (scrambled taps bytes) ≡ bytes
+unfolding scrambled
+scrambled-twice taps bytes = scrambled-from-twice taps firstStages bytes
+
+pub scrambled-injective : (taps : ℕ) (a b : List ℕ) → scrambled taps a ≡ scrambled taps b → a ≡ b
+scrambled-injective taps a b e = sym (scrambled-twice taps a) ∙ ap (scrambled taps) e ∙ scrambled-twice taps b
+
+pub scrambled-from-length : (taps stages : ℕ) (bytes : List ℕ) → length (scrambledFrom taps stages bytes) ≡ length bytes
+unfolding scrambledFrom
+scrambled-from-length taps stages [] = refl
+scrambled-from-length taps stages (b ∷ bytes) = ap suc (scrambled-from-length taps (after taps 8 stages) bytes)
+
+pub scrambled-length : (taps : ℕ) (bytes : List ℕ) → length (scrambled taps bytes) ≡ length bytes
+unfolding scrambled
+scrambled-length taps bytes = scrambled-from-length taps firstStages bytes
+
+-- a second part goes on from the stages that the first part left
+pub scrambled-from-append : (taps stages : ℕ) (a b : List ℕ)
+    → scrambledFrom taps stages (a ++ b) ≡ scrambledFrom taps stages a ++ scrambledFrom taps (after taps (8 * length a) stages) b
+unfolding scrambledFrom after
+scrambled-from-append taps stages [] b = refl
+scrambled-from-append taps stages (x ∷ a) b =
+    let further : 8 + 8 * length a ≡ 8 * suc (length a) = omega arith in
+    ap (λ (l : List ℕ). bitXor x (key taps 8 stages) ∷ l)
+    (scrambled-from-append taps (after taps 8 stages) a b
+    ∙ ap (λ (s : ℕ). scrambledFrom taps (after taps 8 stages) a ++ scrambledFrom taps s b)
+    (sym (after-add taps 8 (8 * length a) stages) ∙ ap (λ (n : ℕ). after taps n stages) further))

@@ -1,0 +1,4 @@
+pub mod Stages
+pub mod Recurrence
+pub mod Laws
+mod Steps
