@@ -71,3 +71,9 @@ xor-bit-mul u v p hu hv =
     (bit-cases (λ v. bitXor 1 v * p ≡ bitXor (1 * p) (v * p))
     (sym (ap (bitXor (1 * p)) (zero-mul p) ∙ xor-zero-r (1 * p)))
     (zero-mul p ∙ sym (xor-self (1 * p))) v hv) u hu
+
+pub bit-mul-lt : (u b n : ℕ) → u < 2 → b < n → u * b < n
+bit-mul-lt u b n hu hb =
+    bit-cases (λ u. u * b < n)
+    (subst (λ (x : ℕ). x < n) (sym (zero-mul b)) (omega arith))
+    (subst (λ (x : ℕ). x < n) (sym (one-mul b)) hb) u hu

@@ -1,14 +1,13 @@
 -- The laws of the field of 256 elements. Each keeps sums in each variable, so it is computed at 1, 2, 4, .., 128 alone (`Basis`).
-use mathlib.Core.Path.{_≡_, refl, sym, ap, ap₂, _∙_, subst}
+use mathlib.Core.Path.{_≡_, refl, sym, ap, ap₂, _∙_}
 use mathlib.Core.Bool.{Bool}
 use Prim.Native.Nat.{ℕ, zero, suc, _+_, _-_, _*_, _/_, _%_, _^_, _≤_, _<_}
 use native.Mathlib.Nat.{sub-add-cancel, mod-lt, zero-mul, one-mul, zero-add, suc-add}
-use native.Mathlib.Omega.{arith}
 use lib.Dec.{T, eqb, eqb→eq, lit<}
 use lib.Pow.{pow-lt}
 use lib.Bits.{bitXor, xor-lt, xor-mod}
 use Rattle.field.specs.Field.{twice, double, power, sumOver, times}
-use Rattle.basics.proofs.Xor.{xor-half, xor-cross, xor-bit-mul, bit-cases}
+use Rattle.basics.proofs.Xor.{bit-mul-lt, xor-half, xor-cross, xor-bit-mul, bit-cases}
 use Rattle.basics.specs.Lists.{allBelow}
 use Rattle.basics.proofs.Tests.{below}
 use Rattle.field.proofs.Basis.{Additive, agree, additive-zero}
@@ -21,12 +20,6 @@ bit-mul-xor u b c hu =
     bit-cases (λ u. u * bitXor b c ≡ bitXor (u * b) (u * c))
     (zero-mul (bitXor b c) ∙ sym (ap₂ bitXor (zero-mul b) (zero-mul c)))
     (one-mul (bitXor b c) ∙ sym (ap₂ bitXor (one-mul b) (one-mul c))) u hu
-
-pub bit-mul-lt : (u b n : ℕ) → u < 2 → b < n → u * b < n
-bit-mul-lt u b n hu hb =
-    bit-cases (λ u. u * b < n)
-    (subst (λ (x : ℕ). x < n) (sym (zero-mul b)) (omega arith))
-    (subst (λ (x : ℕ). x < n) (sym (one-mul b)) hb) u hu
 
 sum-xor-left : (n a c b : ℕ) → sumOver n (bitXor a c) b ≡ bitXor (sumOver n a b) (sumOver n c b)
 unfolding sumOver
