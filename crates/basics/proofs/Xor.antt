@@ -1,7 +1,8 @@
 -- Laws of `bitXor` that `lib.Bits` lacks: it is associative, cancels, and shifts pass through it.
-use mathlib.Core.Path.{_≡_, refl, sym, ap, ap₂, _∙_}
+use mathlib.Core.Path.{_≡_, refl, sym, ap, ap₂, _∙_, subst}
 use Prim.Native.Nat.{ℕ, zero, suc, _+_, _*_, _/_, _%_, _^_, _<_}
-use native.Mathlib.Nat.{not-suc-le-zero, le-of-suc-le-suc, mod-lt, add-zero, zero-mul}
+use native.Mathlib.Nat.{not-suc-le-zero, le-of-suc-le-suc, mod-lt, add-zero, zero-mul, one-mul}
+use native.Mathlib.Omega.{arith}
 use lib.Dec.{lit<}
 use lib.Arith.{bin-ind}
 use lib.Pow.{pow-pos}
@@ -72,6 +73,7 @@ xor-bit-mul u v p hu hv =
     (sym (ap (bitXor (1 * p)) (zero-mul p) ∙ xor-zero-r (1 * p)))
     (zero-mul p ∙ sym (xor-self (1 * p))) v hv) u hu
 
+-- a bit times a number is no larger
 pub bit-mul-lt : (u b n : ℕ) → u < 2 → b < n → u * b < n
 bit-mul-lt u b n hu hb =
     bit-cases (λ u. u * b < n)

@@ -11,7 +11,7 @@ use lib.Pow.{pow-pos, mod-pow-add, high, split, shl-lt}
 use lib.Bits.{bitXor, xor-lt, xor-block, xor-comm, xor-self, xor-zero-r}
 use lib.ListN.{length, length-append}
 use Rattle.field.specs.Field.{twice}
-use Rattle.field.proofs.Laws.{bit-mul-lt}
+use Rattle.basics.proofs.Xor.{bit-mul-lt}
 use Rattle.field.proofs.Double.{twice-lt}
 use Rattle.division.specs.Division.{plus, scale}
 use Rattle.division.proofs.Register.{step, feed, plus-length, scale-length, step-length}
