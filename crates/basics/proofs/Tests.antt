@@ -73,3 +73,8 @@ pub same-self : (a : List ℕ) → same a a ≡ true
 unfolding same
 same-self [] = refl
 same-self (x ∷ a) = both-true (eqb x x) (same a a) (eq-eqb x x refl) (same-self a)
+
+-- a test that is true exactly where two lists are equal
+pub is-same : (t : Bool) (a b : List ℕ) → (t ≡ true → a ≡ b) → (a ≡ b → t ≡ true) → t ≡ same a b
+is-same true a b to from = sym (subst (λ (l : List ℕ). same a l ≡ true) (to refl) (same-self a))
+is-same false a b to from = never-true (same a b) (λ e. false≢true (from (same-true a b e)))

@@ -1,8 +1,8 @@
-// Writing into lent bytes: the one way in which the crates above change a buffer.
+// Writing into lent bytes, the one way in which the crates above change a buffer; and whether two parts hold the same bytes.
 ghost use mathlib.Core.Path.{_≡_};
 ghost use Prim.Native.Nat.{_+_, _-_, _≤_};
 ghost use lib.ListN.{length, take, drop};
-ghost use Rattle.basics.specs.Lists.{zeros};
+ghost use Rattle.basics.specs.Lists.{zeros, same};
 ghost use Rattle.lent.specs.Written.{written};
 
 // Writes all of source into buffer from index at, and touches nothing else.
@@ -37,4 +37,11 @@ pub fn clear_from(buffer: &mut [u8], at: usize)
         buffer[at + i] = 0;
         i = i + 1;
     }
+}
+
+// Whether two parts hold the same bytes.
+pub fn are_same(a: &[u8], b: &[u8]) -> bool
+    ensures { λ r. ⌜ r ≡ same (now (a .entry)) (now (b .entry)) ⌝ }
+{
+    check::same(a, b)
 }
