@@ -6,7 +6,7 @@ use native.Mathlib.Nat.{add-assoc, zero-add}
 use native.Mathlib.Numerals.{add-one}
 use native.Mathlib.Omega.{arith}
 use lib.ListN.{length, getD, take, drop, set, length-take, length-drop, length-append, drop-of-length-le}
-use lib.Seq.{paste, paste-zero, paste-suc, getD-append-add, getD-drop, take-at, drop-at, drop-drop, take-length, take-all}
+use lib.Seq.{paste, paste-zero, paste-suc, getD-append-add, getD-drop, take-at, drop-at, drop-drop, drop-length, take-length, take-all}
 use Rattle.lent.specs.Written.{written}
 
 module _ (d : List ℕ) (at : ℕ) (s : List ℕ) (h : at + length s ≤ length d) where
@@ -71,3 +71,15 @@ written-before d s t k e h =
     rw (zero-add, zero-add, e)
     (ap (λ l. s ++ l) (ap (drop k) (append-assoc (take k d) t (drop (k + length t) d)) ∙ drop-at (take k d) (t ++ drop (k + length t) d) k (simp length-take (omega arith)))
     ∙ rw (length-append, e) (sym (append-assoc s t (drop (k + length t) d))))
+
+-- as many bytes as the buffer has
+pub written-whole : (d s : List ℕ) → length s ≡ length d → written d 0 s ≡ s
+unfolding written
+written-whole d s e = rw (zero-add, e, drop-length) (append-nil s)
+
+-- a buffer that is filled in two parts
+pub written-parts : (d s t : List ℕ) (at : ℕ) → length s ≡ at → at + length t ≡ length d → written (written d 0 s) at t ≡ s ++ t
+written-parts d s t at e h =
+    let whole : length (s ++ t) ≡ length d = simp length-append (omega arith) in
+    let next : 0 + length s ≡ at = zero-add (length s) ∙ e in
+    ap (λ (i : ℕ). written (written d 0 s) i t) (sym next) ∙ written-append d 0 s t (omega arith) ∙ written-whole d (s ++ t) whole
