@@ -20,7 +20,7 @@ use Rattle.division.specs.Division.{plus, remainder}
 use Rattle.division.proofs.Register.{step, step-getD, step-length, feed, feed-length, check-feed, word-remainder, plus-self, plus-zero-eq, check-zeros}
 use Rattle.division.proofs.Linear.{check-plus}
 use Rattle.reed_solomon.specs.Code.{generator, parity, isCodeword, lengthened}
-use Rattle.reed_solomon.proofs.Generator.{generator-is}
+use Rattle.reed_solomon.proofs.Factors.{generator-is}
 
 pub generator-length : length (tail generator) ≡ 16
 generator-length = ap (λ (l : List ℕ). length (tail l)) generator-is

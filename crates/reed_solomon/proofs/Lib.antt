@@ -1,4 +1,4 @@
-pub mod Generator
+pub mod Factors
 pub mod Laws
 pub mod Interleaved
 pub mod Roots

@@ -18,7 +18,7 @@ use Rattle.division.specs.Division.{plus, scale, remainder}
 use Rattle.division.proofs.Register.{scale-length}
 use Rattle.division.proofs.Identity.{plus-length-le}
 use Rattle.reed_solomon.specs.Code.{generator}
-use Rattle.reed_solomon.proofs.Generator.{coefficients, generator-is}
+use Rattle.reed_solomon.proofs.Factors.{coefficients, generator-is}
 use Rattle.reed_solomon.proofs.Laws.{Codeword}
 
 -- the value at x of a polynomial whose coefficients before those of the list have the value a

@@ -1,7 +1,10 @@
 // The Reed-Solomon code of 255 bytes, 239 of them data, over the field of 256 elements: one word, and the eight words of a payload.
-pub mod payload;
+mod payload;
 mod register;
 
+pub use payload::are_codewords;
+pub use payload::write_parity;
+pub use register::generator;
 ghost use mathlib.Core.Path.{_≡_};
 ghost use Prim.Native.Nat.{_≤_};
 ghost use lib.ListN.{length};

@@ -1,5 +1,5 @@
 use mathlib.Core.Path.{sym}
-use Rattle.reed_solomon.proofs.Generator.{generator-is}
+use Rattle.reed_solomon.proofs.Factors.{generator-is}
 use Rattle.reed_solomon.proofs.register.generator.Statement.{statement}
 use Rattle.reed_solomon.proofs.register.generator.Tie as tie
 

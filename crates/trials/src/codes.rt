@@ -1,0 +1,98 @@
+// The kinds of record that try the codes. A body is the input, and behind it what the second coder expects; a test
+// comes out as a byte, 1 for true and 0 for false. A result that differs in length differs.
+use vectors::numbers;
+use vectors::outcome;
+use vectors::outcome::Outcome;
+
+// A message, and its CRC-16.
+pub fn crc_16(body: &[u8]) -> Outcome {
+    if body.len() < 2 {
+        return Outcome::Malformed;
+    }
+    let end = body.len() - 2;
+    let found = numbers::two_bytes(crc::crc_16(&body[0..end]));
+    outcome::of(&found, &body[end..])
+}
+
+// A message, and its CRC-32.
+pub fn crc_32(body: &[u8]) -> Outcome {
+    if body.len() < 4 {
+        return Outcome::Malformed;
+    }
+    let end = body.len() - 4;
+    let found = numbers::four_bytes(crc::crc_32(&body[0..end]));
+    outcome::of(&found, &body[end..])
+}
+
+// An exponent below 255, and that power of 2 in the field.
+pub fn power(body: &[u8]) -> Outcome {
+    if body.len() < 1 {
+        return Outcome::Malformed;
+    }
+    let exponent = numbers::wide(body[0]);
+    if 255 <= exponent {
+        return Outcome::Malformed;
+    }
+    let found = [field::power_of(exponent)];
+    outcome::of(&found, &body[1..])
+}
+
+// Data, and their 16 parity bytes.
+pub fn parity(body: &[u8]) -> Outcome {
+    if body.len() < 16 {
+        return Outcome::Malformed;
+    }
+    let end = body.len() - 16;
+    let found = reed_solomon::parity_of(&body[0..end]);
+    outcome::of(&found, &body[end..])
+}
+
+// A word of at least 16 bytes, and whether it is a codeword.
+pub fn codeword(body: &[u8]) -> Outcome {
+    if body.len() < 17 {
+        return Outcome::Malformed;
+    }
+    let end = body.len() - 1;
+    let found = [reed_solomon::is_codeword(&body[0..end]) as u8];
+    outcome::of(&found, &body[end..])
+}
+
+// A payload of 2,040 bytes, and the same with the parity of its eight words.
+pub fn payload_coded(body: &mut [u8]) -> Outcome {
+    if body.len() < 2040 {
+        return Outcome::Malformed;
+    }
+    reed_solomon::write_parity(&mut body[0..2040]);
+    outcome::of(&body[0..2040], &body[2040..])
+}
+
+// A payload of any length, and whether it is eight codewords.
+pub fn payload_judged(body: &[u8]) -> Outcome {
+    if body.len() < 1 {
+        return Outcome::Malformed;
+    }
+    let end = body.len() - 1;
+    let found = [reed_solomon::are_codewords(&body[0..end]) as u8];
+    outcome::of(&found, &body[end..])
+}
+
+// Taps in four bytes, and whether they are allowed.
+pub fn taps(body: &[u8]) -> Outcome {
+    if body.len() < 4 {
+        return Outcome::Malformed;
+    }
+    let taps = numbers::of_four(body[0], body[1], body[2], body[3]);
+    let found = [scrambler::are_taps(taps) as u8];
+    outcome::of(&found, &body[4..])
+}
+
+// Taps in four bytes, some bytes, and the same scrambled.
+pub fn scrambled(body: &mut [u8]) -> Outcome {
+    if body.len() < 4 {
+        return Outcome::Malformed;
+    }
+    let taps = numbers::of_four(body[0], body[1], body[2], body[3]);
+    let end = 4 + (body.len() - 4) / 2;
+    scrambler::scramble(taps, &mut body[4..end]);
+    outcome::of(&body[4..end], &body[end..])
+}

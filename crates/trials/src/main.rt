@@ -1,0 +1,53 @@
+// Runs the proved libraries against published check values and against the second coder's vectors, which it reads from
+// standard input, and prints how many agree. `tests/README.md` says where the vectors come from.
+mod codes;
+mod kinds;
+mod published;
+
+use vectors::record;
+use vectors::record::Head;
+use vectors::tally::Tally;
+use vectors::text;
+
+// Reads the body of a record, and tries it. The 65,536 bytes that are lent have room for every body.
+fn tried(tally: Tally, kind: u8, length: usize, lent: &mut [u8]) -> Tally {
+    if lent.len() < length {
+        return tally.cut_short();
+    }
+    let body = &mut lent[0..length];
+    if record::is_read(body) {
+        return tally.with(kind, kinds::outcome(kind, body));
+    }
+    tally.cut_short()
+}
+
+fn next_tried(tally: Tally, lent: &mut [u8]) -> Tally {
+    match record::read_head() {
+        Head::Record { kind, length } => tried(tally, kind, length, lent),
+        Head::Short => tally.cut_short(),
+    }
+}
+
+// Tries as many records as the input announces, or as it holds.
+fn all_tried(announced: u64, lent: &mut [u8]) -> Tally {
+    let mut tally = Tally::new();
+    let mut left = announced;
+    while 0 < left && tally.goes_on {
+        let next = next_tried(tally, lent);
+        tally = next;
+        left -= 1;
+    }
+    tally
+}
+
+fn main() {
+    let checks = published::tried();
+    let announced = record::read_count();
+    let mut lent = io::large_buffer();
+    let tally = all_tried(announced, &mut lent).ended(record::is_at_end());
+    kinds::print(tally);
+    text::say(b"check values ");
+    checks.print();
+    text::say(b"\n");
+    tally.print_totals(announced);
+}

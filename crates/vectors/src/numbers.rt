@@ -1,0 +1,36 @@
+// Numbers as the vectors hold them: bytes, the highest first.
+ghost use mathlib.Core.List.{[], _∷_};
+ghost use mathlib.Core.Path.{_≡_};
+ghost use Prim.Native.Nat.{_+_, _*_, _/_, _%_, _<_};
+
+pub fn wide(byte: u8) -> usize
+    ensures { λ r. ⌜ r ≡ byte ⌝ }
+{
+    byte as usize
+}
+
+pub fn two_bytes(number: u16) -> [u8; 2]
+    ensures { λ r. ⌜ r ≡ (number / 256) ∷ (number % 256) ∷ [] ⌝ }
+{
+    [(number / 256) as u8, (number % 256) as u8]
+}
+
+pub fn four_bytes(number: u32) -> [u8; 4] {
+    let high = two_bytes((number / 65536) as u16);
+    let low = two_bytes((number % 65536) as u16);
+    [high[0], high[1], low[0], low[1]]
+}
+
+// The number of two bytes.
+pub fn of_two(high: u8, low: u8) -> u32
+    ensures { λ r. ⌜ (r ≡ high * 256 + low) × (r < 65536) ⌝ }
+{
+    high as u32 * 256 + low as u32
+}
+
+// The number of four bytes.
+pub fn of_four(first: u8, second: u8, third: u8, fourth: u8) -> u32
+    ensures { λ r. ⌜ r ≡ (first * 256 + second) * 65536 + (third * 256 + fourth) ⌝ }
+{
+    of_two(first, second) * 65536 + of_two(third, fourth)
+}

@@ -1,0 +1,113 @@
+// What the records came to.
+use crate::count;
+use crate::count::Count;
+use crate::outcome::Outcome;
+use crate::text;
+
+// A record's kind is a number below this one.
+pub const KINDS: usize = 32;
+
+pub struct Tally {
+    // By kind.
+    pub kinds: [Count; KINDS],
+    pub total: Count,
+    pub malformed: u64,
+    // The place of the next record, from 1.
+    pub place: u64,
+    // Whether the input has not ended early.
+    pub goes_on: bool,
+}
+
+impl Tally {
+    pub fn new() -> Tally {
+        Tally {
+            kinds: [Count::none(); KINDS],
+            total: Count::none(),
+            malformed: 0,
+            place: 1,
+            goes_on: true,
+        }
+    }
+
+    // With one record more.
+    pub fn with(self, kind: u8, outcome: Outcome) -> Tally {
+        match outcome {
+            Outcome::Same => self.compared(kind, true),
+            Outcome::Different => {
+                self.print_place(kind, b" differs\n");
+                self.compared(kind, false)
+            }
+            Outcome::Malformed => {
+                self.print_place(kind, b" is malformed\n");
+                self.refused()
+            }
+        }
+    }
+
+    fn compared(self, kind: u8, is_same: bool) -> Tally {
+        let mut next = self;
+        let at = kind as usize;
+        if at < KINDS {
+            let of_kind = next.kinds[at];
+            next.kinds[at] = of_kind.with(is_same);
+        }
+        let total = next.total;
+        next.total = total.with(is_same);
+        next.place = count::more(next.place);
+        next
+    }
+
+    fn refused(self) -> Tally {
+        let mut next = self;
+        next.malformed = count::more(next.malformed);
+        next.place = count::more(next.place);
+        next
+    }
+
+    // The input ended before the end of the record at this place.
+    pub fn cut_short(self) -> Tally {
+        text::say(b"the input ends before the end of record ");
+        text::number(self.place);
+        text::say(b"\n");
+        let mut next = self.refused();
+        next.goes_on = false;
+        next
+    }
+
+    // After the last record.
+    pub fn ended(self, is_at_end: bool) -> Tally {
+        if is_at_end {
+            return self;
+        }
+        text::say(b"bytes follow the last record\n");
+        self.refused()
+    }
+
+    fn print_place(self, kind: u8, what: &[u8]) {
+        text::say(b"record ");
+        text::number(self.place);
+        text::say(b" of kind ");
+        text::number(kind as u64);
+        text::say(what);
+    }
+
+    // The line of a kind.
+    pub fn print_kind(self, kind: usize, name: &[u8]) {
+        if kind < KINDS {
+            let of_kind = self.kinds[kind];
+            of_kind.print_row(name);
+        }
+    }
+
+    // The last line.
+    pub fn print_totals(self, announced: u64) {
+        let total = self.total;
+        text::say(b"vectors ");
+        text::number(announced);
+        text::say(b" announced, ");
+        total.print();
+        text::say(b", ");
+        text::number(self.malformed);
+        text::say(b" malformed\n");
+    }
+}
