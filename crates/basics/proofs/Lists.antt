@@ -20,6 +20,10 @@ zero-behind [] (suc k) = refl
 zero-behind (x ∷ l) zero = refl
 zero-behind (x ∷ l) (suc k) = zero-behind l k
 
+pub bytes-front : (p q : List ℕ) → Bytes (p ++ q) → Bytes p
+bytes-front [] q h = tt
+bytes-front (x ∷ p) q h = (h .0, bytes-front p q (h .1))
+
 pub bytes-behind : (p q : List ℕ) → Bytes (p ++ q) → Bytes q
 bytes-behind [] q h = h
 bytes-behind (x ∷ p) q h = bytes-behind p q (h .1)

@@ -10,7 +10,7 @@ use native.Mathlib.Omega.{arith}
 use lib.Dec.{lit<, eqb}
 use borrow.Author.Tests.{eq-eqb, eqb-true}
 use lib.ListN.{length, getD, set, take, drop, drop-of-length-le, length-set, length-append, List·getD-append}
-use lib.Seq.{drop-cons, getD-set-same, getD-set-other, ext-getD, length-take-le, getD-take, getD-append-add}
+use lib.Seq.{drop-cons, getD-set-same, getD-set-other, ext-getD, length-take-le, getD-take, getD-append-add, take-at}
 use Rattle.basics.specs.Lists.{entries, allBelow}
 use Rattle.basics.proofs.Tests.{lt-or-ge, both-true, left-true, right-true, below-true, all-below}
 use Rattle.basics.proofs.Lists.{entries-length, entries-at}
@@ -136,6 +136,10 @@ module _ (message : List ℕ) (long : length message ≡ 1912) where
   unfolding codedPayload
   coded-length =
       length-append message (entries (parityByte message) 0 128) ∙ ap₂ (λ (a b : ℕ). a + b) long (entries-length (parityByte message) 0 128)
+
+  pub coded-front : take 1912 (codedPayload message) ≡ message
+  unfolding codedPayload
+  coded-front = take-at message (entries (parityByte message) 0 128) 1912 long
 
   coded-data : (i : ℕ) → i < 1912 → getD (codedPayload message) i 0 ≡ getD message i 0
   unfolding codedPayload

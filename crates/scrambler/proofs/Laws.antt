@@ -3,11 +3,13 @@ use mathlib.Core.Path.{_≡_, refl, sym, ap, ap₂, _∙_}
 use mathlib.Core.List.{List, [], _∷_, _++_}
 use Prim.Native.Nat.{ℕ, suc, _+_, _*_}
 use native.Mathlib.Omega.{arith}
-use lib.Bits.{bitXor, xor-comm}
+use lib.Bits.{bitXor, xor-comm, xor-lt}
 use lib.ListN.{length}
+use Rattle.basics.specs.Lists.{Bytes}
 use Rattle.basics.proofs.Xor.{xor-cancel}
 use Rattle.scrambler.specs.Scrambler.{after, firstStages, key, scrambledFrom, scrambled}
 use Rattle.scrambler.proofs.Stages.{after-add}
+use Rattle.scrambler.proofs.Steps.{key-lt}
 
 pub scrambled-from-twice : (taps stages : ℕ) (bytes : List ℕ) → scrambledFrom taps stages (scrambledFrom taps stages bytes) ≡ bytes
 unfolding scrambledFrom
@@ -32,6 +34,17 @@ scrambled-from-length taps stages (b ∷ bytes) = ap suc (scrambled-from-length 
 pub scrambled-length : (taps : ℕ) (bytes : List ℕ) → length (scrambled taps bytes) ≡ length bytes
 unfolding scrambled
 scrambled-length taps bytes = scrambled-from-length taps firstStages bytes
+
+-- bytes stay bytes
+scrambled-from-bytes : (taps stages : ℕ) (bytes : List ℕ) → Bytes bytes → Bytes (scrambledFrom taps stages bytes)
+unfolding scrambledFrom
+scrambled-from-bytes taps stages [] h = tt
+scrambled-from-bytes taps stages (b ∷ bytes) h =
+    (xor-lt 8 b (key taps 8 stages) (h .0) (key-lt taps 8 stages), scrambled-from-bytes taps (after taps 8 stages) bytes (h .1))
+
+pub scrambled-bytes : (taps : ℕ) (bytes : List ℕ) → Bytes bytes → Bytes (scrambled taps bytes)
+unfolding scrambled
+scrambled-bytes taps bytes h = scrambled-from-bytes taps firstStages bytes h
 
 -- a second part goes on from the stages that the first part left
 pub scrambled-from-append : (taps stages : ℕ) (a b : List ℕ)

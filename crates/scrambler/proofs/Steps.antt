@@ -79,7 +79,7 @@ pub after-end : (taps stages n : ℕ) → n ≤ 0 → after taps n stages ≡ st
 unfolding after
 after-end taps stages n h = ap (λ (x : ℕ). after taps x stages) (le-zero h)
 
-key-lt : (taps n stages : ℕ) → key taps n stages < 2 ^ n
+pub key-lt : (taps n stages : ℕ) → key taps n stages < 2 ^ n
 unfolding key
 key-lt taps zero stages = lit< tt
 key-lt taps (suc n) stages =
