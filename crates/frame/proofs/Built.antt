@@ -1,0 +1,113 @@
+-- A frame that was built is accepted, and read back to its header and its area.
+use mathlib.Core.Path.{_≡_, refl, sym, ap, ap₂, _∙_}
+use mathlib.Core.Bool.{true}
+use mathlib.Core.List.{List, _++_, append-assoc}
+use Prim.Native.Nat.{ℕ, _+_, _-_, _≤_}
+use native.Mathlib.Omega.{arith}
+use lib.Dec.{lit≤}
+use lib.ListN.{length, take, drop, length-append}
+use lib.Seq.{take-at, drop-at, drop-drop, take-take, take-add, length-take-le}
+use Rattle.basics.specs.Lists.{zeros, same}
+use Rattle.basics.proofs.Tests.{same-self}
+use Rattle.lent.proofs.Outcome.{accepted}
+use Rattle.reed_solomon.specs.Code.{parity, isCodeword, lengthened}
+use Rattle.reed_solomon.specs.Payload.{areCodewords}
+use Rattle.reed_solomon.proofs.Laws.{parity-zeros, codeword-true, coded}
+use Rattle.reed_solomon.proofs.Interleaved.{codewords-true, coded-codewords, coded-front}
+use Rattle.scrambler.specs.Scrambler.{tapsAllowed, scrambled}
+use Rattle.scrambler.proofs.Laws.{scrambled-twice}
+use Rattle.header.specs.Header.{headerBytes, headerFits, headerOf, headerRefusal}
+use Rattle.header.specs.declared.Header.{Header}
+use Rattle.header.proofs.Bytes.{header-length}
+use Rattle.header.proofs.Sent.{sendable, header-back, none-refused}
+use Rattle.frame.specs.Frame.{preamble, codedHeader, areaCheck, areaPayload, frameBytes}
+use Rattle.frame.specs.Opening.{unscrambled, headerPart, areaPart, areaChecked, payloadRefusal, innerRefusal, openRefusal, openedHeader, openedArea}
+use Rattle.frame.proofs.Laws.{payload-length, data-length, coded-header-length, body-length, inner-then, outer-zero}
+
+module _ (taps : ℕ) (header : Header) (area : List ℕ) (long : length area ≡ 1908) where
+  abbrev body : List ℕ
+  body = codedHeader header ++ areaPayload area
+
+  abbrev frame : List ℕ
+  frame = frameBytes taps header area
+
+  frame-front : take 9 frame ≡ preamble
+  unfolding frameBytes
+  frame-front = take-at preamble (scrambled taps body) 9 refl
+
+  frame-length : length frame ≡ 2081
+  unfolding frameBytes
+  frame-length = length-append preamble (scrambled taps body) ∙ ap (λ (n : ℕ). 9 + n) (body-length taps header area long)
+
+  frame-body : unscrambled taps frame ≡ body
+  unfolding unscrambled frameBytes
+  frame-body = ap (scrambled taps) (drop-at preamble (scrambled taps body) 9 refl) ∙ scrambled-twice taps body
+
+  -- ---- the parts of the body
+
+  body-header : take 32 body ≡ codedHeader header
+  body-header = take-at (codedHeader header) (areaPayload area) 32 (coded-header-length header)
+
+  body-payload : drop 32 body ≡ areaPayload area
+  body-payload = drop-at (codedHeader header) (areaPayload area) 32 (coded-header-length header)
+
+  body-fields : headerPart body ≡ headerBytes header
+  unfolding codedHeader
+  body-fields =
+      ap (take 16) (append-assoc (headerBytes header) (parity (zeros 223 ++ headerBytes header)) (areaPayload area))
+      ∙ take-at (headerBytes header) _ 16 (header-length header)
+
+  -- the data of the payload
+  payload-front : take 1912 (areaPayload area) ≡ area ++ areaCheck area
+  unfolding areaPayload
+  payload-front = coded-front (area ++ areaCheck area) (data-length area long)
+
+  body-area : areaPart body ≡ area
+  body-area =
+      ap (take 1908) body-payload
+      ∙ sym (take-take 1908 1912 (areaPayload area) (lit≤ tt))
+      ∙ ap (take 1908) payload-front ∙ take-at area (areaCheck area) 1908 long
+
+  body-check : take 4 (drop 1940 body) ≡ areaCheck area
+  body-check =
+      let payload = areaPayload area in
+      let front : length (take 1908 payload) ≡ 1908 = length-take-le 1908 payload (omega (arith, payload-length area long)) in
+      ap (take 4) (sym (drop-drop 1908 32 body) ∙ ap (drop 1908) body-payload)
+      ∙ sym (drop-at (take 1908 payload) (take 4 (drop 1908 payload)) 1908 front)
+      ∙ ap (drop 1908) (sym (take-add 1908 4 payload) ∙ payload-front) ∙ drop-at area (areaCheck area) 1908 long
+
+  -- ---- what is asked of it
+
+  header-codeword : isCodeword (lengthened (take 32 body)) ≡ true
+  unfolding codedHeader
+  header-codeword =
+      ap (λ (l : List ℕ). isCodeword (lengthened l)) (body-header ∙ ap (λ (l : List ℕ). headerBytes header ++ l) (parity-zeros 223 (headerBytes header)))
+      ∙ codeword-true _ (coded (headerBytes header) (omega (arith, header-length header)))
+
+  payload-codewords : areCodewords (drop 32 body) ≡ true
+  unfolding areaPayload
+  payload-codewords = ap areCodewords body-payload ∙ codewords-true _ (coded-codewords (area ++ areaCheck area) (data-length area long))
+
+  payload-passes : payloadRefusal body ≡ 0
+  unfolding payloadRefusal areaChecked
+  payload-passes =
+      simp (payload-codewords, ap₂ same body-check (ap areaCheck body-area) ∙ same-self (areaCheck area))
+
+  inner-passes : headerFits header ≡ true → innerRefusal body ≡ 0
+  unfolding innerRefusal
+  inner-passes h =
+      let none = ap headerRefusal body-fields ∙ none-refused header (sendable header h) in
+      simp header-codeword (sym (accepted (headerRefusal (headerPart body)) _ _ _ _ refl none (sym payload-passes)))
+
+  pub built-accepted : (buffer : List ℕ) → tapsAllowed taps ≡ true → headerFits header ≡ true → 1908 ≤ length buffer → openRefusal taps frame buffer ≡ 0
+  built-accepted buffer t h room =
+      let none = outer-zero taps frame buffer (record { allowed = t; long = frame-length; room = room; begins = frame-front }) in
+      sym (inner-then taps frame buffer 0 0 (sym none) refl (sym (ap innerRefusal frame-body ∙ inner-passes h)))
+
+  pub built-header : headerFits header ≡ true → openedHeader taps frame ≡ header
+  unfolding openedHeader
+  built-header h = ap (λ (l : List ℕ). headerOf (headerPart l)) frame-body ∙ ap headerOf body-fields ∙ header-back header (sendable header h)
+
+  pub built-area : openedArea taps frame ≡ area
+  unfolding openedArea
+  built-area = ap areaPart frame-body ∙ body-area

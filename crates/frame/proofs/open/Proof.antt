@@ -1,0 +1,141 @@
+use native.Mathlib.Omega.{arith}
+use mathlib.Core.Path.{_≡_, sym, ap, _∙_}
+use lib.ListN.{length, drop, length-drop}
+use Rattle.lent.specs.Written.{written}
+use Rattle.frame.specs.Opening.{unscrambled, innerRefusal, openedHeader, openedArea, headerPart, areaPart}
+use lib.Seq.{length-take-le}
+use Rattle.lent.proofs.Outcome.{refused, kept, accepted}
+use Rattle.header.specs.Header.{headerOf}
+use Rattle.frame.specs.declared.OpenAnswer.the-variants.{Opened, Refused}
+use Rattle.frame.proofs.Laws.{outer-first, inner-then, outer-passed, unscrambled-length}
+use borrow.Author.Needs.{needs}
+use Rattle.frame.proofs.open.Statement.{statement}
+use Rattle.frame.proofs.open.Tie as tie
+
+outer-refusal-requires : tie.Need-outer-refusal-requires
+outer-refusal-requires c κs = search needs
+
+same-length : tie.Need-same-length
+same-length c = search needs
+
+returns : tie.Need-returns
+returns c =
+    let at-args = c .before .before .before .before .before .args in
+    let at-outer-refusal = c .before .outer-refusal in
+    let at-if1 = c .if1 in
+    let e = outer-first (at-args .taps) (at-args .frame .now) (at-args .area .now) (at-outer-refusal .result) (at-outer-refusal .ensures) (at-if1 .taken) in
+    record { answer = refused _ _ _ (λ n. Refused n) e (at-if1 .taken); bytes = kept _ _ _ _ e (at-if1 .taken) }
+
+unscrambled-requires : tie.Need-unscrambled-requires
+unscrambled-requires c κs =
+    let at-args = c .before .before .before .before .before .args in
+    let at-outer-refusal = c .before .outer-refusal in
+    let at-if1 = c .if1 in
+    outer-passed (at-args .taps) (at-args .frame .now) (at-args .area .now) (sym (at-outer-refusal .ensures) ∙ (at-if1 .left)) .long
+
+slice-aggregate-inner-refusal : tie.Need-slice-aggregate-inner-refusal
+slice-aggregate-inner-refusal c = search needs
+
+inner-refusal-requires : tie.Need-inner-refusal-requires
+inner-refusal-requires c κs =
+    let at-args = c .before .before .before .before .before .before .before .args in
+    let at-outer-refusal = c .before .before .before .outer-refusal in
+    let at-if1 = c .before .before .if1 in
+    let at-unscrambled = c .before .unscrambled in
+    let outer = outer-passed (at-args .taps) (at-args .frame .now) (at-args .area .now) (sym (at-outer-refusal .ensures) ∙ (at-if1 .left)) in
+    ap length (at-unscrambled .ensures) ∙ unscrambled-length (at-args .taps) (at-args .frame .now) (outer .long)
+
+same-length-2 : tie.Need-same-length-2
+same-length-2 c = search needs
+
+returns-2 : tie.Need-returns-2
+returns-2 c =
+    let at-args = c .before .before .before .before .before .before .before .before .before .args in
+    let at-outer-refusal = c .before .before .before .before .before .outer-refusal in
+    let at-inner-refusal = c .before .inner-refusal in
+    let at-if1 = c .before .before .before .before .if1 in
+    let at-unscrambled = c .before .before .before .unscrambled in
+    let at-if2 = c .if2 in
+    let e = inner-then (at-args .taps) (at-args .frame .now) (at-args .area .now) (at-outer-refusal .result) (at-inner-refusal .result) (at-outer-refusal .ensures) (at-if1 .left) ((at-inner-refusal .ensures) ∙ ap innerRefusal (at-unscrambled .ensures)) in
+    record { answer = refused _ _ _ (λ n. Refused n) e (at-if2 .taken); bytes = kept _ _ _ _ e (at-if2 .taken) }
+
+sub-write-at : tie.Need-sub-write-at
+sub-write-at c = search needs
+
+part-write-at-start : tie.Need-part-write-at-start
+part-write-at-start c = search needs
+
+part-write-at-end : tie.Need-part-write-at-end
+part-write-at-end c = search needs
+
+write-at-requires : tie.Need-write-at-requires
+write-at-requires c κs =
+    let at-args = c .before .before .before .before .before .before .before .before .before .before .before .before .args in
+    let at-outer-refusal = c .before .before .before .before .before .before .before .before .outer-refusal in
+    let at-if1 = c .before .before .before .before .before .before .before .if1 in
+    let at-unscrambled = c .before .before .before .before .before .before .unscrambled in
+    let outer = outer-passed (at-args .taps) (at-args .frame .now) (at-args .area .now) (sym (at-outer-refusal .ensures) ∙ (at-if1 .left)) in
+    let long : length (at-unscrambled .result) ≡ 2072 = ap length (at-unscrambled .ensures) ∙ unscrambled-length (at-args .taps) (at-args .frame .now) (outer .long) in
+    omega (arith, outer .room, length-take-le 1908 (drop 32 (at-unscrambled .result)) (omega (arith, length-drop 32 (at-unscrambled .result))))
+
+array-share-prefix-body : tie.Need-array-share-prefix-body
+array-share-prefix-body c = search needs
+
+slice-aggregate-header-of : tie.Need-slice-aggregate-header-of
+slice-aggregate-header-of c =
+    let at-args = c .before .before .before .before .before .before .before .before .before .before .before .before .before .before .before .before .args in
+    let at-outer-refusal = c .before .before .before .before .before .before .before .before .before .before .before .before .outer-refusal in
+    let at-if1 = c .before .before .before .before .before .before .before .before .before .before .before .if1 in
+    let at-unscrambled = c .before .before .before .before .before .before .before .before .before .before .unscrambled in
+    let outer = outer-passed (at-args .taps) (at-args .frame .now) (at-args .area .now) (sym (at-outer-refusal .ensures) ∙ (at-if1 .left)) in
+    let long : length (at-unscrambled .result) ≡ 2072 = ap length (at-unscrambled .ensures) ∙ unscrambled-length (at-args .taps) (at-args .frame .now) (outer .long) in
+    sym (length-take-le 16 (at-unscrambled .result) (omega arith))
+
+header-of-requires : tie.Need-header-of-requires
+header-of-requires c κs =
+    let at-args = c .before .before .before .before .before .before .before .before .before .before .before .before .before .before .before .before .args in
+    let at-outer-refusal = c .before .before .before .before .before .before .before .before .before .before .before .before .outer-refusal in
+    let at-if1 = c .before .before .before .before .before .before .before .before .before .before .before .if1 in
+    let at-unscrambled = c .before .before .before .before .before .before .before .before .before .before .unscrambled in
+    let outer = outer-passed (at-args .taps) (at-args .frame .now) (at-args .area .now) (sym (at-outer-refusal .ensures) ∙ (at-if1 .left)) in
+    let long : length (at-unscrambled .result) ≡ 2072 = ap length (at-unscrambled .ensures) ∙ unscrambled-length (at-args .taps) (at-args .frame .now) (outer .long) in
+    length-take-le 16 (at-unscrambled .result) (omega arith)
+
+same-length-3 : tie.Need-same-length-3
+same-length-3 c = search needs
+
+returns-3 : tie.Need-returns-3
+unfolding openedHeader openedArea
+returns-3 c =
+    let at-args = c .before .before .before .before .before .before .before .before .before .before .before .before .before .before .before .before .before .args in
+    let at-outer-refusal = c .before .before .before .before .before .before .before .before .before .before .before .before .before .outer-refusal in
+    let at-inner-refusal = c .before .before .before .before .before .before .before .before .before .inner-refusal in
+    let at-if1 = c .before .before .before .before .before .before .before .before .before .before .before .before .if1 in
+    let at-unscrambled = c .before .before .before .before .before .before .before .before .before .before .before .unscrambled in
+    let at-if2 = c .before .before .before .before .before .before .before .before .if2 in
+    let at-header-of = c .header-of in
+    let at-write-at = c .before .before .before .before .write-at in
+    let e = inner-then (at-args .taps) (at-args .frame .now) (at-args .area .now) (at-outer-refusal .result) (at-inner-refusal .result) (at-outer-refusal .ensures) (at-if1 .left) ((at-inner-refusal .ensures) ∙ ap innerRefusal (at-unscrambled .ensures)) in
+    record { answer = accepted _ _ _ _ _ e (at-if2 .left) (ap (λ h. Opened h) ((at-header-of .ensures) ∙ ap (λ l. headerOf (headerPart l)) (at-unscrambled .ensures))); bytes = accepted _ _ _ _ _ e (at-if2 .left) ((at-write-at .ensures) ∙ ap (λ l. written (at-args .area .now) 0 (areaPart l)) (at-unscrambled .ensures)) }
+
+pub open-spec : {M : Type 1} → statement M
+open-spec =
+    tie.close
+    (tie.spec
+    outer-refusal-requires
+    same-length
+    returns
+    unscrambled-requires
+    slice-aggregate-inner-refusal
+    inner-refusal-requires
+    same-length-2
+    returns-2
+    sub-write-at
+    part-write-at-start
+    part-write-at-end
+    write-at-requires
+    array-share-prefix-body
+    slice-aggregate-header-of
+    header-of-requires
+    same-length-3
+    returns-3)

@@ -1,0 +1,71 @@
+// What is asked of a frame that arrived, in the order of the refusals' numbers.
+use crate::coding;
+ghost use mathlib.Core.Path.{_≡_};
+ghost use lib.ListN.{length};
+ghost use Rattle.frame.specs.Opening.{unscrambled, outerRefusal, innerRefusal, payloadRefusal, areaChecked};
+
+// 1, 2 and 7, before the frame is unscrambled.
+pub fn outer_refusal(taps: u32, frame: &[u8], area: &[u8]) -> u8
+    ensures { λ r. ⌜ r ≡ outerRefusal taps (now (frame .entry)) (now (area .entry)) ⌝ }
+{
+    if !scrambler::are_taps(taps) {
+        return 1;
+    }
+    if frame.len() != 2081 {
+        return 2;
+    }
+    if area.len() < 1908 {
+        return 2;
+    }
+    let preamble = coding::preamble();
+    if lent::are_same(&frame[..9], &preamble) {
+        0
+    } else {
+        7
+    }
+}
+
+// The 2,072 bytes after the preamble, with the scrambler's bits taken off.
+pub fn unscrambled(taps: u32, frame: &[u8]) -> [u8; 2072]
+    requires { ⌜ length (now frame) ≡ 2081 ⌝ }
+    ensures { λ r. ⌜ r ≡ unscrambled taps (now (frame .entry)) ⌝ }
+{
+    let mut body = [0u8; 2072];
+    lent::write_at(&mut body, 0, &frame[9..]);
+    scrambler::scramble(taps, &mut body);
+    body
+}
+
+// 8 to 13.
+pub fn inner_refusal(body: &[u8]) -> u8
+    requires { ⌜ length (now body) ≡ 2072 ⌝ }
+    ensures { λ r. ⌜ r ≡ innerRefusal (now (body .entry)) ⌝ }
+{
+    if !reed_solomon::is_codeword(&body[..32]) {
+        return 8;
+    }
+    let number = header::reading::header_refusal(&body[..16]);
+    if number != 0 {
+        return number;
+    }
+    payload_refusal(body)
+}
+
+// 12 and 13.
+fn payload_refusal(body: &[u8]) -> u8
+    requires { ⌜ length (now body) ≡ 2072 ⌝ }
+    ensures { λ r. ⌜ r ≡ payloadRefusal (now (body .entry)) ⌝ }
+{
+    if !reed_solomon::are_codewords(&body[32..]) {
+        return 12;
+    }
+    if is_area_checked(body) { 0 } else { 13 }
+}
+
+fn is_area_checked(body: &[u8]) -> bool
+    requires { ⌜ length (now body) ≡ 2072 ⌝ }
+    ensures { λ r. ⌜ r ≡ areaChecked (now (body .entry)) ⌝ }
+{
+    let check = coding::area_check(&body[32..1940]);
+    lent::are_same(&body[1940..1944], &check)
+}

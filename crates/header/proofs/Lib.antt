@@ -1,0 +1,9 @@
+pub mod Theorems
+pub mod Calls
+pub mod Sent
+pub mod Received
+pub mod Channel
+pub mod Bits
+pub mod Numbers
+pub mod Bytes
+pub mod Signed

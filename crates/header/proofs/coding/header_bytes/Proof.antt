@@ -1,0 +1,75 @@
+use mathlib.Core.Path.{_≡_, refl, ap, _∙_}
+use mathlib.Core.List.{List, [], _∷_, _++_}
+use Prim.Native.Nat.{ℕ, _/_, _%_}
+use lib.ListN.{length}
+use Rattle.basics.specs.Lists.{zeros}
+use Rattle.lent.specs.Written.{written}
+use Rattle.header.proofs.Bytes.{fields-length}
+use Rattle.lent.proofs.Written.{written-parts}
+use Rattle.header.specs.Header.{headerBytes}
+use borrow.Author.Needs.{needs}
+use Rattle.header.proofs.coding.header_bytes.Statement.{statement}
+use Rattle.header.proofs.coding.header_bytes.Tie as tie
+
+field-bytes-requires : tie.Need-field-bytes-requires
+field-bytes-requires c κs = search needs
+
+slice-aggregate-crc-16 : tie.Need-slice-aggregate-crc-16
+slice-aggregate-crc-16 c = search needs
+
+crc-16-requires : tie.Need-crc-16-requires
+crc-16-requires c κs = search needs
+
+cast-high : tie.Need-cast-high
+cast-high c = search needs
+
+cast-low : tie.Need-cast-low
+cast-low c = search needs
+
+slice-aggregate-write-at : tie.Need-slice-aggregate-write-at
+slice-aggregate-write-at c = search needs
+
+slice-aggregate-write-at-2 : tie.Need-slice-aggregate-write-at-2
+slice-aggregate-write-at-2 c = search needs
+
+write-at-requires : tie.Need-write-at-requires
+write-at-requires c κs = search needs
+
+slice-aggregate-write-at-3 : tie.Need-slice-aggregate-write-at-3
+slice-aggregate-write-at-3 c = search needs
+
+slice-aggregate-write-at-4 : tie.Need-slice-aggregate-write-at-4
+slice-aggregate-write-at-4 c = search needs
+
+write-at-requires-2 : tie.Need-write-at-requires-2
+write-at-requires-2 c κs = search needs
+
+returns : tie.Need-returns
+unfolding headerBytes
+returns c =
+    let at-crc-16 = c .before .before .before .before .before .before .before .before .crc-16 in
+    let at-field-bytes = c .before .before .before .before .before .before .before .before .before .before .field-bytes in
+    let at-args = c .before .before .before .before .before .before .before .before .before .before .before .args in
+    let at-write-at2 = c .before .write-at2 in
+    let at-write-at = c .before .before .before .before .before .write-at in
+    let check : List ℕ = (at-crc-16 .result / 256 % 256) ∷ (at-crc-16 .result % 256) ∷ [] in
+    let fields : List ℕ = at-field-bytes .result in
+    let joined : fields ++ check ≡ headerBytes (at-args .header) = simp (at-crc-16 .ensures, at-field-bytes .ensures) in
+    at-write-at2 .ensures ∙ ap (λ l. written l 14 check) (at-write-at .ensures) ∙ written-parts (zeros 16) fields check 14 (ap length (at-field-bytes .ensures) ∙ fields-length (at-args .header)) refl ∙ joined
+
+pub header-bytes-spec : {M : Type 1} → statement M
+header-bytes-spec =
+    tie.close
+    (tie.spec
+    field-bytes-requires
+    slice-aggregate-crc-16
+    crc-16-requires
+    cast-high
+    cast-low
+    slice-aggregate-write-at
+    slice-aggregate-write-at-2
+    write-at-requires
+    slice-aggregate-write-at-3
+    slice-aggregate-write-at-4
+    write-at-requires-2
+    returns)

@@ -1,0 +1,5 @@
+pub mod Calls
+pub mod Header
+pub mod FastChannel
+pub mod Counts
+pub mod Numbers

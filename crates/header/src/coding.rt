@@ -1,0 +1,116 @@
+// A header as 16 bytes, and what may be sent in them. Frames are built with the same two functions, fields_fit and header_bytes.
+ghost use mathlib.Core.Path.{_≡_};
+ghost use Prim.Native.Nat.{_≤_};
+ghost use Rattle.header.specs.Header.{bit, kindNumber, flagsByte, channelByte, rxfnRule, fieldsFit, fieldBytes, headerBytes};
+use crate::FastChannel;
+use crate::Fields;
+use crate::FrameKind;
+use crate::Header;
+use crate::messages;
+
+fn kind_number(kind: FrameKind) -> u8
+    ensures { λ r. ⌜ r ≡ kindNumber kind ⌝ }
+    ensures small { λ r. ⌜ r ≤ 3 ⌝ }
+{
+    match kind {
+        FrameKind::Idle => 0,
+        FrameKind::Data => 1,
+        FrameKind::Type2 => 2,
+        FrameKind::Type3 => 3,
+    }
+}
+
+fn bit_of(flag: bool) -> u8
+    ensures { λ r. ⌜ r ≡ bit flag ⌝ }
+    ensures small { λ r. ⌜ r ≤ 1 ⌝ }
+{
+    if flag { 1 } else { 0 }
+}
+
+// With ACK-valid 0, RXFN is 0.
+pub fn rxfn_rule(valid: bool, rxfn: u16) -> bool
+    ensures { λ r. ⌜ r ≡ rxfnRule valid rxfn ⌝ }
+{
+    if valid {
+        return true;
+    }
+    rxfn == 0
+}
+
+// No field to send is too large for its bits or against its rule (refusal 6).
+pub fn fields_fit(fields: Fields) -> bool
+    ensures { λ r. ⌜ r ≡ fieldsFit fields ⌝ }
+{
+    let valid = fields.valid;
+    let rxfn = fields.rxfn.0;
+    if !rxfn_rule(valid, rxfn) {
+        return false;
+    }
+    if 1099511627776 <= fields.stamp {
+        return false;
+    }
+    if 64 <= fields.seconds {
+        return false;
+    }
+    if 8 <= fields.applies {
+        return false;
+    }
+    let message = fields.message;
+    messages::message_fits(message)
+}
+
+fn flags_byte(ack: bool, valid: bool, kind: FrameKind) -> u8
+    ensures { λ r. ⌜ r ≡ flagsByte ack valid kind ⌝ }
+{
+    240 + 8 * bit_of(ack) + 4 * bit_of(valid) + kind_number(kind)
+}
+
+fn channel_byte(applies: u8, message: FastChannel) -> u8
+    ensures { λ r. ⌜ r ≡ channelByte applies message ⌝ }
+{
+    128 + 16 * (applies % 8) + messages::opcode(message) % 16
+}
+
+// d0 to d13. A number too large for its field is cut off.
+fn field_bytes(header: Header) -> [u8; 14]
+    ensures { λ r. ⌜ r ≡ fieldBytes header ⌝ }
+{
+    let kind = header.kind;
+    let fields = header.fields;
+    let txfn = header.txfn.0;
+    let rxfn = fields.rxfn.0;
+    let stamp = fields.stamp;
+    let message = fields.message;
+    let payload = messages::payload(message);
+    [
+        (txfn % 256) as u8,
+        (txfn / 256 % 256) as u8,
+        (rxfn % 256) as u8,
+        (rxfn / 256 % 256) as u8,
+        flags_byte(fields.ack, fields.valid, kind),
+        (stamp % 256) as u8,
+        (stamp / 256 % 256) as u8,
+        (stamp / 65536 % 256) as u8,
+        (stamp / 16777216 % 256) as u8,
+        (stamp / 4294967296 % 256) as u8,
+        192 + fields.seconds % 64,
+        channel_byte(fields.applies, message),
+        (payload % 256) as u8,
+        (payload / 256 % 256) as u8,
+    ]
+}
+
+// The 16 bytes: the check sum stands high byte first, unlike the fields.
+pub fn header_bytes(header: Header) -> [u8; 16]
+    ensures { λ r. ⌜ r ≡ headerBytes header ⌝ }
+{
+    let fields = field_bytes(header);
+    let sum = crc::crc_16(&fields);
+    let high = (sum / 256 % 256) as u8;
+    let low = (sum % 256) as u8;
+    let check = [high, low];
+    let mut coded = [0; 16];
+    lent::write_at(&mut coded, 0, &fields);
+    lent::write_at(&mut coded, 14, &check);
+    coded
+}
