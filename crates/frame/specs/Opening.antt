@@ -58,7 +58,11 @@ openedHeader taps frame = headerOf (headerPart (unscrambled taps frame))
 unfoldable pub openedArea : ℕ → List ℕ → List ℕ
 openedArea taps frame = areaPart (unscrambled taps frame)
 
--- the whole outcome of `open`: the answer, and the area's buffer
+-- the case of the answer for the paper's number, with the header read
+abbrev pub openAnswer : ℕ → Header → OpenAnswer
+openAnswer number header = by number (Opened header) (Refused number)
+
+-- the answer of `open`, and the area's buffer after it: a refusal leaves the buffer as it was
 pub record OpenOutcome (taps : ℕ) (frame before : List ℕ) (r : OpenAnswer) (after : List ℕ) : Type 0 where
-  pub answer : r ≡ by (openRefusal taps frame before) (Opened (openedHeader taps frame)) (Refused (openRefusal taps frame before))
+  pub answer : r ≡ openAnswer (openRefusal taps frame before) (openedHeader taps frame)
   pub bytes : after ≡ by (openRefusal taps frame before) (written before 0 (openedArea taps frame)) before
