@@ -1,0 +1,10 @@
+pub mod Marks
+pub mod Reassembly
+pub mod Numbers
+pub mod Sender
+pub mod Demand3
+pub mod Machine
+pub mod Store
+pub mod RoundTrip
+pub mod Hold
+pub mod Examples
