@@ -1,6 +1,6 @@
 // A header as 16 bytes, and what may be sent in them. Frames are built with the same two functions, fields_fit and header_bytes.
 ghost use mathlib.Core.Path.{_≡_};
-ghost use Prim.Native.Nat.{_≤_};
+ghost use Prim.Native.Nat.{_/_, _%_, _≤_, _<_};
 ghost use Rattle.header.specs.Header.{bit, kindNumber, flagsByte, channelByte, rxfnRule, fieldsFit, fieldBytes, headerBytes};
 use crate::FastChannel;
 use crate::Fields;
@@ -59,6 +59,14 @@ pub fn fields_fit(fields: Fields) -> bool
     messages::message_fits(message)
 }
 
+// The byte of a number at a power of 256.
+fn byte(number: u64, power: u64) -> u8
+    requires { ⌜ 0 < power ⌝ }
+    ensures { λ r. ⌜ r ≡ number / power % 256 ⌝ }
+{
+    (number / power % 256) as u8
+}
+
 fn flags_byte(ack: bool, valid: bool, kind: FrameKind) -> u8
     ensures { λ r. ⌜ r ≡ flagsByte ack valid kind ⌝ }
 {
@@ -75,28 +83,28 @@ fn channel_byte(applies: u8, message: FastChannel) -> u8
 fn field_bytes(header: Header) -> [u8; 14]
     ensures { λ r. ⌜ r ≡ fieldBytes header ⌝ }
 {
+    let txfn = header.txfn.0 as u64;
     let kind = header.kind;
     let fields = header.fields;
-    let txfn = header.txfn.0;
-    let rxfn = fields.rxfn.0;
+    let rxfn = fields.rxfn.0 as u64;
     let stamp = fields.stamp;
     let message = fields.message;
-    let payload = messages::payload(message);
+    let payload = messages::payload(message) as u64;
     [
-        (txfn % 256) as u8,
-        (txfn / 256 % 256) as u8,
-        (rxfn % 256) as u8,
-        (rxfn / 256 % 256) as u8,
+        byte(txfn, 1),
+        byte(txfn, 256),
+        byte(rxfn, 1),
+        byte(rxfn, 256),
         flags_byte(fields.ack, fields.valid, kind),
-        (stamp % 256) as u8,
-        (stamp / 256 % 256) as u8,
-        (stamp / 65536 % 256) as u8,
-        (stamp / 16777216 % 256) as u8,
-        (stamp / 4294967296 % 256) as u8,
+        byte(stamp, 1),
+        byte(stamp, 256),
+        byte(stamp, 65536),
+        byte(stamp, 16777216),
+        byte(stamp, 4294967296),
         192 + fields.seconds % 64,
         channel_byte(fields.applies, message),
-        (payload % 256) as u8,
-        (payload / 256 % 256) as u8,
+        byte(payload, 1),
+        byte(payload, 256),
     ]
 }
 
@@ -105,10 +113,8 @@ pub fn header_bytes(header: Header) -> [u8; 16]
     ensures { λ r. ⌜ r ≡ headerBytes header ⌝ }
 {
     let fields = field_bytes(header);
-    let sum = crc::crc_16(&fields);
-    let high = (sum / 256 % 256) as u8;
-    let low = (sum % 256) as u8;
-    let check = [high, low];
+    let sum = crc::crc_16(&fields) as u64;
+    let check = [byte(sum, 256), byte(sum, 1)];
     let mut coded = [0; 16];
     lent::write_at(&mut coded, 0, &fields);
     lent::write_at(&mut coded, 14, &check);
