@@ -14,7 +14,8 @@ use Rattle.field.specs.Field.{twice}
 use Rattle.basics.proofs.Xor.{bit-mul-lt}
 use Rattle.field.proofs.Double.{twice-lt}
 use Rattle.division.specs.Division.{plus, scale}
-use Rattle.division.proofs.Register.{step, feed, plus-length, scale-length, step-length}
+use Rattle.division.specs.Register.{step, feed}
+use Rattle.division.proofs.Register.{plus-length, scale-length, step-length}
 use Rattle.crc.specs.Crc.{bits, number}
 use Rattle.crc.specs.Register.{bitStep, bitSteps}
 

@@ -1,6 +1,5 @@
 -- Every p case of paper 01 holds: one proof of the whole table, by computation; the row for all taps cites the scrambler's law.
-use mathlib.Core.Path.{_≡_, refl, fun-ext}
-use mathlib.Core.List.{[], _∷_}
+use mathlib.Core.Path.{refl, fun-ext}
 use lib.Count.{ones}
 use Rattle.crc.specs.Crc.{bits, number, messageBits, crc, crc-16, crc-32}
 use Rattle.division.specs.Division.{plus, scale, remainder, check}

@@ -11,6 +11,7 @@ use lib.ListN.{drop, drop-of-length-le, length, getD, length-append}
 use Rattle.basics.proofs.Xor.{xor-assoc, xor-zero-eq}
 use Rattle.basics.specs.Lists.{zeros}
 use Rattle.basics.proofs.Lists.{zeros-length, zeros-snoc, zero-behind}
+use Rattle.division.specs.Register.{step, feed}
 use Rattle.division.specs.Division.{plus, scale, remainder, check}
 
 -- ---- sums of lists
@@ -75,17 +76,7 @@ module _ (times : ℕ → ℕ → ℕ) where
 
   -- ---- the register
 
-  -- one coefficient d goes in: the register moves up by a place, and the coefficient that leaves it, with d, takes off the divisor
-  unfoldable pub step : List ℕ → List ℕ → ℕ → List ℕ
-  step g [] d = []
-  step g (h ∷ t) d = plus (scale times (bitXor h d) g) (t ++ 0 ∷ [])
-
-  unfoldable pub feed : List ℕ → List ℕ → List ℕ → List ℕ
-  unfolding step
-  feed g s [] = s
-  feed g s (d ∷ m) = feed g (step g s d) m
-
-  pub step-length : (g s : List ℕ) (d : ℕ) → length s ≡ length g → length (step g s d) ≡ length g
+  pub step-length : (g s : List ℕ) (d : ℕ) → length s ≡ length g → length (step times g s d) ≡ length g
   unfolding step
   step-length g [] d e = e
   step-length g (h ∷ t) d e =
@@ -94,30 +85,30 @@ module _ (times : ℕ → ℕ → ℕ) where
 
   -- the register's places after a step, one by one
   pub step-getD : (g s : List ℕ) (d k : ℕ) → length s ≡ length g → k < length g
-      → getD (step g s d) k 0 ≡ bitXor (times (bitXor (getD s 0 0) d) (getD g k 0)) (getD s (suc k) 0)
+      → getD (step times g s d) k 0 ≡ bitXor (times (bitXor (getD s 0 0) d) (getD g k 0)) (getD s (suc k) 0)
   unfolding step
   step-getD g [] d k e h = absurd (not-suc-le-zero (subst (λ (n : ℕ). k < n) (sym e) h))
   step-getD g (x ∷ t) d k e h =
       plus-getD (scale times (bitXor x d) g) (t ++ 0 ∷ []) k
       ∙ ap₂ bitXor (scale-getD (bitXor x d) g k h) (zero-behind t k)
 
-  pub feed-length : (g s m : List ℕ) → length s ≡ length g → length (feed g s m) ≡ length g
+  pub feed-length : (g s m : List ℕ) → length s ≡ length g → length (feed times g s m) ≡ length g
   unfolding feed
   feed-length g s [] e = e
-  feed-length g s (d ∷ m) e = feed-length g (step g s d) m (step-length g s d e)
+  feed-length g s (d ∷ m) e = feed-length g (step times g s d) m (step-length g s d e)
 
   -- a loop over a list: a turn, and the end
-  pub feed-turn : (g s m : List ℕ) (i : ℕ) → i < length m → feed g s (drop i m) ≡ feed g (step g s (getD m i 0)) (drop (i + 1) m)
+  pub feed-turn : (g s m : List ℕ) (i : ℕ) → i < length m → feed times g s (drop i m) ≡ feed times g (step times g s (getD m i 0)) (drop (i + 1) m)
   unfolding feed
-  feed-turn g s m i h = ap (feed g s) (drop-cons m i 0 h) ∙ ap (λ (k : ℕ). feed g (step g s (getD m i 0)) (drop k m)) (sym (add-one i))
+  feed-turn g s m i h = ap (feed times g s) (drop-cons m i 0 h) ∙ ap (λ (k : ℕ). feed times g (step times g s (getD m i 0)) (drop k m)) (sym (add-one i))
 
-  pub feed-end : (g s m : List ℕ) (i : ℕ) → length m ≤ i → feed g s (drop i m) ≡ s
+  pub feed-end : (g s m : List ℕ) (i : ℕ) → length m ≤ i → feed times g s (drop i m) ≡ s
   unfolding feed
-  feed-end g s m i h = ap (feed g s) (drop-of-length-le m h)
+  feed-end g s m i h = ap (feed times g s) (drop-of-length-le m h)
 
   -- what stands in the register is what long division still has to take off
   pub divide : (g s m p : List ℕ) (L : ℕ) → length g ≡ suc L → length s ≡ suc L → length p ≡ suc L
-      → remainder times g (length m) (plus s (m ++ p)) ≡ plus (feed g s m) p
+      → remainder times g (length m) (plus s (m ++ p)) ≡ plus (feed times g s m) p
   unfolding remainder feed
   divide g s [] p L hg hs hp = refl
   divide g [] (d ∷ m) p L hg hs hp = absurd (suc-ne-zero L (sym hs))
@@ -126,10 +117,10 @@ module _ (times : ℕ → ℕ → ℕ) where
       ap (remainder times g (length m))
       (ap (plus (scale times (bitXor h d) g)) (sym (plus-zero-behind t (m ++ p) long))
       ∙ sym (plus-assoc (scale times (bitXor h d) g) (t ++ 0 ∷ []) (m ++ p)))
-      ∙ divide g (step g (h ∷ t) d) m p L hg (step-length g (h ∷ t) d (hs ∙ sym hg) ∙ hg) hp
+      ∙ divide g (step times g (h ∷ t) d) m p L hg (step-length g (h ∷ t) d (hs ∙ sym hg) ∙ hg) hp
 
   -- the remainder of m times x^L is what a register of zeros holds after m
-  pub check-feed : (g m : List ℕ) (L : ℕ) → length g ≡ suc L → check times g m ≡ feed g (zeros (suc L)) m
+  pub check-feed : (g m : List ℕ) (L : ℕ) → length g ≡ suc L → check times g m ≡ feed times g (zeros (suc L)) m
   unfolding check
   check-feed g m L hg =
       let Z = zeros (suc L) in
@@ -137,8 +128,8 @@ module _ (times : ℕ → ℕ → ℕ) where
       ap (λ (n : ℕ). remainder times g (length m) (m ++ zeros n)) hg
       ∙ ap (remainder times g (length m)) (sym (plus-zeros (suc L) (m ++ Z) (omega (arith, length-append m Z))))
       ∙ divide g Z m Z L hg hz hz
-      ∙ plus-comm (feed g Z m) Z
-      ∙ plus-zeros (suc L) (feed g Z m) (omega (arith, feed-length g Z m (hz ∙ sym hg)))
+      ∙ plus-comm (feed times g Z m) Z
+      ∙ plus-zeros (suc L) (feed times g Z m) (omega (arith, feed-length g Z m (hz ∙ sym hg)))
 
   -- The word m ++ p is a multiple of the divisor exactly where p is the remainder of m times x^L: the two, added, are what division leaves of it
   pub word-remainder : (g m p : List ℕ) (L : ℕ) → length g ≡ suc L → length p ≡ suc L

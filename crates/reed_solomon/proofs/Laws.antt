@@ -17,7 +17,8 @@ use Rattle.basics.proofs.Lists.{zeros-length}
 use Rattle.field.specs.Field.{times}
 use Rattle.field.proofs.Laws.{zero-times, times-xor-left}
 use Rattle.division.specs.Division.{plus, remainder}
-use Rattle.division.proofs.Register.{step, step-getD, step-length, feed, feed-length, check-feed, word-remainder, plus-self, plus-zero-eq, check-zeros}
+use Rattle.division.specs.Register.{step, feed}
+use Rattle.division.proofs.Register.{step-getD, step-length, feed-length, check-feed, word-remainder, plus-self, plus-zero-eq, check-zeros}
 use Rattle.division.proofs.Linear.{check-plus}
 use Rattle.reed_solomon.specs.Code.{generator, parity, isCodeword, lengthened}
 use Rattle.reed_solomon.proofs.Factors.{generator-is}

@@ -3,7 +3,7 @@ ghost use mathlib.Core.Path.{_≡_};
 ghost use mathlib.Core.List.{tail};
 ghost use Rattle.field.specs.Field.{times};
 ghost use Rattle.field.specs.Tables.{powerTable, logarithmTable};
-ghost use Rattle.division.proofs.Register.{step};
+ghost use Rattle.division.specs.Register.{step};
 ghost use Rattle.reed_solomon.specs.Code.{generator, parity};
 
 // The product of the 16 factors x - 2^(11 j), j from 120 to 135, the highest power first.

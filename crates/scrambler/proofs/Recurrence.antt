@@ -56,12 +56,3 @@ first-bytes taps =
     ap₂ (λ (x : ℕ) (l : List ℕ). x ∷ l) (key-digits taps 8 0 firstStages (lit≤ tt) (lit< tt))
     (ap₂ (λ (x : ℕ) (l : List ℕ). x ∷ l) (key-digits taps 8 8 firstStages (lit≤ tt) (lit< tt))
     (ap (λ (x : ℕ). x ∷ []) (ap (key taps 8) (sym (after-add taps 8 8 firstStages)) ∙ key-digits taps 8 16 firstStages (lit≤ tt) (lit< tt))))
-
--- byte 3 is 70 for taps 0 and 3, and 10 for taps 0 and 1 (hex)
-pub byte-3-of-taps-0-3 : scrambled 9 (zeros 4) ≡ 0xE0 ∷ 0 ∷ 0 ∷ 0x70 ∷ []
-unfolding scrambled scrambledFrom key after next newBit sumBelow
-byte-3-of-taps-0-3 = refl
-
-pub byte-3-of-taps-0-1 : scrambled 3 (zeros 4) ≡ 0xE0 ∷ 0 ∷ 0 ∷ 0x10 ∷ []
-unfolding scrambled scrambledFrom key after next newBit sumBelow
-byte-3-of-taps-0-1 = refl

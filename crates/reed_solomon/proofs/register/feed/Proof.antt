@@ -5,7 +5,8 @@ use mathlib.Core.List.{tail}
 use Prim.Native.Nat.{_+_, _≤_, _-_}
 use lib.ListN.{length, getD, drop}
 use Rattle.field.specs.Field.{times}
-use Rattle.division.proofs.Register.{feed, feed-turn, feed-end}
+use Rattle.division.specs.Register.{feed}
+use Rattle.division.proofs.Register.{feed-turn, feed-end}
 use Rattle.reed_solomon.specs.Code.{generator, parity}
 use Rattle.reed_solomon.proofs.Laws.{parity-feed, step-long}
 use Rattle.reed_solomon.proofs.register.feed.Statement.{statement}

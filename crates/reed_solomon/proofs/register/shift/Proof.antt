@@ -7,7 +7,7 @@ use lib.Bits.{bitXor}
 use lib.ListN.{length, getD, set, length-set}
 use Rattle.basics.proofs.Fill.{Filled, filled-more, filled-all}
 use Rattle.field.specs.Field.{times}
-use Rattle.division.proofs.Register.{step}
+use Rattle.division.specs.Register.{step}
 use Rattle.reed_solomon.specs.Code.{generator}
 use Rattle.reed_solomon.proofs.Laws.{place, last-place, step-long}
 use Rattle.reed_solomon.proofs.register.shift.Statement.{statement}
