@@ -5,7 +5,7 @@ use mathlib.Core.List.{List, _++_}
 use Prim.Native.Nat.{ℕ, _+_, _-_, _≤_}
 use native.Mathlib.Omega.{arith}
 use lib.Dec.{lit<, lit≤}
-use lib.ListN.{length, take, drop, take-append-drop}
+use lib.ListN.{length, length-drop, take, drop, take-append-drop}
 use lib.Seq.{length-take-le, take-take, drop-drop, take-add}
 use Rattle.basics.specs.Lists.{Bytes}
 use Rattle.basics.proofs.Tests.{same-true}
@@ -16,7 +16,7 @@ use Rattle.reed_solomon.specs.Code.{parity, isCodeword, lengthened}
 use Rattle.reed_solomon.specs.Payload.{areCodewords, codedPayload}
 use Rattle.reed_solomon.proofs.Laws.{parity-zeros, true-codeword, of-shorter}
 use Rattle.reed_solomon.proofs.Interleaved.{true-codewords, codewords-coded}
-use Rattle.scrambler.specs.Scrambler.{scrambled}
+use Rattle.scrambler.specs.Scrambler.{tapsAllowed, scrambled}
 use Rattle.scrambler.proofs.Laws.{scrambled-twice, scrambled-bytes}
 use Rattle.header.specs.Header.{headerBytes, headerFits, headerOf, headerRefusal}
 use Rattle.header.proofs.Received.{received-fits, header-again}
@@ -104,3 +104,10 @@ module _ (taps : ℕ) (frame buffer : List ℕ) (bytes : Bytes frame) (none : op
   pub accepted-fits : headerFits (openedHeader taps frame) ≡ true
   unfolding openedHeader
   accepted-fits = received-fits (headerPart body) header-bytes header-length (inner .1)
+
+  pub accepted-taps : tapsAllowed taps ≡ true
+  accepted-taps = outer .allowed
+
+  pub accepted-area : length (openedArea taps frame) ≡ 1908
+  unfolding openedArea
+  accepted-area = length-take-le 1908 (drop 32 body) (omega (arith, long, length-drop 32 body))

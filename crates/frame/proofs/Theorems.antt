@@ -1,39 +1,65 @@
 -- The two theorems of the frame (demand 2), for all allowed taps: what is built is opened to the same header and area, and what is opened is what was
--- built. So the frames that are accepted are exactly those that are built of headers that may be sent.
-use mathlib.Core.Path.{_≡_, sym, _∙_}
+-- built. So the frames that are accepted are exactly those that are built of headers that may be sent and of areas of 1,908 bytes.
+use mathlib.Core.Path.{_≡_, refl, sym, ap, _∙_}
 use mathlib.Core.Bool.{true}
 use mathlib.Core.List.{List}
 use Prim.Native.Nat.{ℕ, _≤_}
 use lib.ListN.{length}
 use Rattle.basics.specs.Lists.{Bytes}
+use Rattle.lent.specs.Written.{written}
+use Rattle.lent.proofs.Outcome.{accepted, numbered}
 use Rattle.scrambler.specs.Scrambler.{tapsAllowed}
 use Rattle.header.specs.Header.{headerFits}
 use Rattle.header.specs.declared.Header.{Header}
 use Rattle.frame.specs.Frame.{frameBytes}
-use Rattle.frame.specs.Opening.{openRefusal, openedHeader, openedArea, OpenOutcome}
+use Rattle.frame.specs.Opening.{openRefusal, openedHeader, openedArea, openNumber, openAnswer, OpenOutcome}
 use Rattle.frame.specs.declared.OpenAnswer.{OpenAnswer}
+use Rattle.frame.specs.declared.OpenAnswer.the-variants.{Opened, Refused}
 use Rattle.frame.proofs.Built.{built-accepted, built-header, built-area}
-use Rattle.frame.proofs.Accepted.{accepted-frame, accepted-fits}
+use Rattle.frame.proofs.Accepted.{accepted-frame, accepted-fits, accepted-taps, accepted-area}
 
--- what opening a built frame answers
-pub record OpenedAs (taps : ℕ) (frame buffer : List ℕ) (header : Header) (area : List ℕ) : Type 0 where
-  pub none-refused : openRefusal taps frame buffer ≡ 0
-  pub header-is : openedHeader taps frame ≡ header
-  pub area-is : openedArea taps frame ≡ area
+-- the answer's number is the one that it was made for
+pub open-numbers : (number : ℕ) (header : Header) → openNumber (openAnswer number header) ≡ number
+open-numbers number header = numbered openNumber (Opened header) (λ n. Refused n) refl (λ n. refl) number
+
+-- the header in an answer, or another where there is none
+abbrev headerIn : Header → OpenAnswer → Header
+headerIn other (Opened header) = header
+headerIn other (Refused number) = other
 
 -- Opening what was built answers the header and the area, for every header that may be sent and every 1,908 bytes, into any buffer that is large enough.
-pub open-of-built : (taps : ℕ) (header : Header) (area buffer : List ℕ) → tapsAllowed taps ≡ true → headerFits header ≡ true → length area ≡ 1908
-    → 1908 ≤ length buffer → OpenedAs taps (frameBytes taps header area) buffer header area
-open-of-built taps header area buffer t h e room = record {
-  none-refused = built-accepted taps header area e buffer t h room;
-  header-is = built-header taps header area e h;
-  area-is = built-area taps header area e;
-}
+pub open-of-built : (taps : ℕ) (header : Header) (area before : List ℕ) (r : OpenAnswer) (after : List ℕ)
+    → tapsAllowed taps ≡ true → headerFits header ≡ true → length area ≡ 1908 → 1908 ≤ length before
+    → OpenOutcome taps (frameBytes taps header area) before r after → (r ≡ Opened header) × (after ≡ written before 0 area)
+open-of-built taps header area before r after t h e room outcome =
+    let none = built-accepted taps header area e before t h room in (
+      outcome .answer ∙ sym (accepted 0 _ _ _ _ (sym none) refl refl) ∙ ap (λ (x : Header). Opened x) (built-header taps header area e h),
+      outcome .bytes ∙ sym (accepted 0 _ _ _ _ (sym none) refl refl) ∙ ap (written before 0) (built-area taps header area e),
+    )
 
--- Whatever is accepted is what would be built of the header and the area that were answered; and that header may be sent.
-pub built-of-open : (taps : ℕ) (frame buffer : List ℕ) → Bytes frame → openRefusal taps frame buffer ≡ 0
-    → (frame ≡ frameBytes taps (openedHeader taps frame) (openedArea taps frame)) × (headerFits (openedHeader taps frame) ≡ true)
-built-of-open taps frame buffer b e = (accepted-frame taps frame buffer b e, accepted-fits taps frame buffer b e)
+-- what is known of a frame that was accepted
+pub record AcceptedAs (taps : ℕ) (frame : List ℕ) (header : Header) (area : List ℕ) : Type 0 where
+  pub allowed : tapsAllowed taps ≡ true
+  pub may-be-sent : headerFits header ≡ true
+  pub long : length area ≡ 1908
+  pub frame-is : frame ≡ frameBytes taps header area
+
+-- Whatever is accepted is what would be built of the header that was answered and of the area that was written.
+pub built-of-open : (taps : ℕ) (frame before : List ℕ) (header : Header) (after : List ℕ) → Bytes frame
+    → OpenOutcome taps frame before (Opened header) after
+    → AcceptedAs taps frame header (openedArea taps frame) × (after ≡ written before 0 (openedArea taps frame))
+built-of-open taps frame before header after bytes outcome =
+    let none : openRefusal taps frame before ≡ 0 = sym (ap openNumber (outcome .answer) ∙ open-numbers (openRefusal taps frame before) (openedHeader taps frame)) in
+    let header-is : header ≡ openedHeader taps frame =
+    ap (headerIn header) (outcome .answer ∙ sym (accepted 0 _ _ _ _ (sym none) refl refl)) in (
+      record {
+        allowed = accepted-taps taps frame before bytes none;
+        may-be-sent = ap headerFits header-is ∙ accepted-fits taps frame before bytes none;
+        long = accepted-area taps frame before bytes none;
+        frame-is = accepted-frame taps frame before bytes none ∙ ap (λ (x : Header). frameBytes taps x (openedArea taps frame)) (sym header-is);
+      },
+      outcome .bytes ∙ sym (accepted 0 _ _ _ _ (sym none) refl refl),
+    )
 
 -- Any two outcomes that the contract of `open` admits are equal.
 pub open-one : (taps : ℕ) (frame before : List ℕ) (r₁ r₂ : OpenAnswer) (after₁ after₂ : List ℕ)

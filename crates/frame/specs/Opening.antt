@@ -58,7 +58,11 @@ openedHeader taps frame = headerOf (headerPart (unscrambled taps frame))
 unfoldable pub openedArea : ℕ → List ℕ → List ℕ
 openedArea taps frame = areaPart (unscrambled taps frame)
 
--- the case of the answer for the paper's number, with the header read
+-- The paper's number and values for each case of the answer, and the case for a number: `open-numbers` in proofs/Theorems.antt ties the two.
+abbrev pub openNumber : OpenAnswer → ℕ
+openNumber (Opened header) = 0
+openNumber (Refused number) = number
+
 abbrev pub openAnswer : ℕ → Header → OpenAnswer
 openAnswer number header = by number (Opened header) (Refused number)
 

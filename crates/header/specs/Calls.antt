@@ -19,7 +19,11 @@ use Rattle.header.specs.declared.ReadAnswer.the-variants as read
 unfoldable pub codeRefusal : Header → List ℕ → ℕ
 codeRefusal header lent = cond (eqb (length lent) 16) (cond (headerFits header) 0 6) 2
 
--- the case of the answer for the paper's number (01, last section)
+-- the paper's number for each case of the answer (01, last section), and the case for a number; `code-numbers` in proofs/Calls.antt ties the two
+abbrev pub codeNumber : CodeAnswer → ℕ
+codeNumber code.Coded = 0
+codeNumber (code.Refused number) = number
+
 abbrev pub codeAnswer : ℕ → CodeAnswer
 codeAnswer number = by number code.Coded (code.Refused number)
 
@@ -33,7 +37,11 @@ pub record CodeHeaderOutcome (header : Header) (before : List ℕ) (r : CodeAnsw
 unfoldable pub readRefusal : List ℕ → ℕ
 readRefusal bytes = cond (eqb (length bytes) 16) (headerRefusal bytes) 2
 
--- the case of the answer for the paper's number, with the header read
+-- the same for the answer of read_header, with the header read
+abbrev pub readNumber : ReadAnswer → ℕ
+readNumber (read.Read header) = 0
+readNumber (read.Refused number) = number
+
 abbrev pub readAnswer : ℕ → Header → ReadAnswer
 readAnswer number header = by number (read.Read header) (read.Refused number)
 

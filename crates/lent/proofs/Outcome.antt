@@ -1,9 +1,10 @@
 -- How a call's two ways out meet a contract that goes by the refusal's number. n is the number that the code found, m the definition's.
 use Prim.Native.Nat.{ℕ, _<_}
 use mathlib.Core.Bool.{Bool, true, false, cond, _&&_}
-use mathlib.Core.Path.{_≡_, refl}
+use mathlib.Core.Path.{_≡_, refl, sym, ap, _∙_}
 use native.Mathlib.Omega.{arith}
-use borrow.Author.Tests.{eq-eqb, ne-eqb}
+use borrow.Author.Tests.{eq-eqb, ne-eqb, eqb-true, eqb-false}
+use lib.Dec.{eqb}
 use Rattle.lent.specs.Outcome.{by}
 
 module _ {A : Type 0} where
@@ -21,6 +22,17 @@ module _ {A : Type 0} where
   pub accepted : (n m : ℕ) (done old result : A) → n ≡ m → n ≡ 0 → result ≡ done → result ≡ by m done old
   unfolding by
   accepted n m done old result e z q = rw (← e, eq-eqb n 0 z) q
+
+  -- an answer that goes by a number has that number, where each of its cases has its own
+  pub numbered : (numberOf : A → ℕ) (done : A) (answer : ℕ → A) → numberOf done ≡ 0 → ((n : ℕ) → numberOf (answer n) ≡ n)
+      → (number : ℕ) → numberOf (by number done (answer number)) ≡ number
+  numbered numberOf done answer none each number = go (eqb number 0) refl
+    where
+      go : (t : Bool) → eqb number 0 ≡ t → numberOf (by number done (answer number)) ≡ number
+      go true e =
+          let z = eqb-true number 0 e in
+          ap numberOf (sym (accepted number number done (answer number) done refl z refl)) ∙ none ∙ sym z
+      go false e = ap numberOf (sym (refused number number done answer refl (eqb-false number 0 e))) ∙ each number
 
 -- a gate that was passed: what it tests holds, and the gates behind it were passed
 pub gate : (test : Bool) (behind number : ℕ) → 0 < number → cond test behind number ≡ 0 → (test ≡ true) × (behind ≡ 0)
