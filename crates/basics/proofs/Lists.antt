@@ -1,9 +1,9 @@
 -- Laws of lists of zeros, of bytes and of entries.
-use mathlib.Core.Path.{_≡_, refl, sym, ap, _∙_}
+use mathlib.Core.Path.{_≡_, refl, sym, ap, _∙_, subst}
 use mathlib.Core.List.{List, [], _∷_, _++_}
 use Prim.Native.Nat.{ℕ, zero, suc, _+_, _<_}
 use native.Mathlib.Nat.{not-suc-le-zero, le-of-suc-le-suc, add-zero, add-suc, suc-add}
-use lib.ListN.{length, getD, length-replicate}
+use lib.ListN.{length, getD, take, drop, length-replicate, take-append-drop}
 use Rattle.basics.specs.Lists.{zeros, Bytes, entries}
 
 pub zeros-length : (n : ℕ) → length (zeros n) ≡ n
@@ -27,6 +27,12 @@ bytes-front (x ∷ p) q h = (h .0, bytes-front p q (h .1))
 pub bytes-behind : (p q : List ℕ) → Bytes (p ++ q) → Bytes q
 bytes-behind [] q h = h
 bytes-behind (x ∷ p) q h = bytes-behind p q (h .1)
+
+pub bytes-drop : (n : ℕ) (l : List ℕ) → Bytes l → Bytes (drop n l)
+bytes-drop n l h = bytes-behind (take n l) (drop n l) (subst Bytes (sym (take-append-drop n l)) h)
+
+pub bytes-take : (n : ℕ) (l : List ℕ) → Bytes l → Bytes (take n l)
+bytes-take n l h = bytes-front (take n l) (drop n l) (subst Bytes (sym (take-append-drop n l)) h)
 
 pub entries-length : (f : ℕ → ℕ) (i n : ℕ) → length (entries f i n) ≡ n
 unfolding entries

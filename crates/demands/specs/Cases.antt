@@ -5,6 +5,8 @@ use mathlib.Core.Path.{_≡_}
 use Prim.Native.Nat.{ℕ, _+_}
 use lib.Count.{ones}
 use lib.IntN.{ℤ, pos, negℤ}
+use mathlib.Core.Option.{none}
+use Rattle.basics.specs.Lists.{zeros}
 use Rattle.crc.specs.Crc.{crc-16, crc-32}
 use Rattle.field.specs.Field.{power}
 use Rattle.scrambler.specs.Scrambler.{scrambled}
@@ -14,6 +16,7 @@ use Rattle.header.specs.declared.Header.{Header}
 use Rattle.header.specs.declared.FrameKind.the-variants.{Idle, Data}
 use Rattle.header.specs.declared.FastChannel.the-variants.{Absent, Version}
 use Rattle.frame.specs.Frame.{preamble}
+use Rattle.packing.specs.Filling.{area}
 
 -- a row: what a definition gives at some input, and what the paper states
 pub record Row : Type 1 where
@@ -84,5 +87,7 @@ cases =
     ∷ bytes (scrambled 3 (0 ∷ 0 ∷ 0 ∷ 0 ∷ [])) (0xE0 ∷ 0x00 ∷ 0x00 ∷ 0x10 ∷ [])
     ∷ bytes (fieldBytes idle) (0x01 ∷ 0x00 ∷ 0x00 ∷ 0x00 ∷ 0xF0 ∷ 0x00 ∷ 0x00 ∷ 0x00 ∷ 0x00 ∷ 0x00 ∷ 0xC0 ∷ 0x8F ∷ 0xFF ∷ 0xFF ∷ [])
     ∷ bytes (fieldBytes versioned) (0x34 ∷ 0x12 ∷ 0xFF ∷ 0xFF ∷ 0xFD ∷ 0x01 ∷ 0x00 ∷ 0x00 ∷ 0x00 ∷ 0x00 ∷ 0xFB ∷ 0xB5 ∷ 0x42 ∷ 0x10 ∷ [])
+    -- packet AA
+    ∷ bytes (area (record { rest = none; waiting = (0xAA ∷ []) ∷ [] })) (0xC0 ∷ 0x01 ∷ 0xAA ∷ zeros 1905)
     ∷ record { Of = ℤ; found = levelOf 255; stated = negℤ (pos 6396930) }
     ∷ []

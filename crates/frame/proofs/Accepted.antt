@@ -1,5 +1,5 @@
 -- A frame that is accepted is the one that is built of what was read from it.
-use mathlib.Core.Path.{_≡_, sym, ap, ap₂, _∙_, subst}
+use mathlib.Core.Path.{_≡_, sym, ap, ap₂, _∙_}
 use mathlib.Core.Bool.{true}
 use mathlib.Core.List.{List, _++_}
 use Prim.Native.Nat.{ℕ, _+_, _-_, _≤_}
@@ -9,7 +9,7 @@ use lib.ListN.{length, length-drop, take, drop, take-append-drop}
 use lib.Seq.{length-take-le, take-take, drop-drop, take-add}
 use Rattle.basics.specs.Lists.{Bytes}
 use Rattle.basics.proofs.Tests.{same-true}
-use Rattle.basics.proofs.Lists.{bytes-front, bytes-behind}
+use Rattle.basics.proofs.Lists.{bytes-take, bytes-drop}
 use Rattle.lent.specs.Outcome.{by}
 use Rattle.lent.proofs.Outcome.{gate}
 use Rattle.reed_solomon.specs.Code.{parity, isCodeword, lengthened}
@@ -55,13 +55,13 @@ module _ (taps : ℕ) (frame buffer : List ℕ) (bytes : Bytes frame) (none : op
 
   body-bytes : Bytes body
   unfolding unscrambled
-  body-bytes = scrambled-bytes taps (drop 9 frame) (bytes-behind (take 9 frame) (drop 9 frame) (subst Bytes (sym (take-append-drop 9 frame)) bytes))
+  body-bytes = scrambled-bytes taps (drop 9 frame) (bytes-drop 9 frame bytes)
 
   header-length : length (headerPart body) ≡ 16
   header-length = length-take-le 16 body (omega (arith, long))
 
   header-bytes : Bytes (headerPart body)
-  header-bytes = bytes-front (take 16 body) (drop 16 body) (subst Bytes (sym (take-append-drop 16 body)) body-bytes)
+  header-bytes = bytes-take 16 body body-bytes
 
   header-is : headerBytes (headerOf (headerPart body)) ≡ headerPart body
   header-is = header-again (headerPart body) header-bytes header-length (inner .1)

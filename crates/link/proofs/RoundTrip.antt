@@ -11,7 +11,7 @@ use lib.Seq.{take-append-seam, drop-append-seam, drop-drop}
 use lib.Dec.{leb}
 use borrow.Author.Tests.{leb-true, le-leb, lt-leb}
 use Rattle.basics.specs.Lists.{Bytes}
-use Rattle.basics.proofs.Lists.{bytes-behind}
+use Rattle.basics.proofs.Lists.{bytes-drop}
 use Rattle.basics.proofs.Tests.{left-true, right-true}
 use Rattle.link.specs.Link.{Packet, IsPacket, ArePackets, Queue, IsRest, IsQueue, withPacket}
 use Rattle.link.specs.Store.{marked, layoutWaiting, layoutRest, layout, markAt, isLength, withFront, packetsIn, withRest, parseBegun, parse}
@@ -164,7 +164,7 @@ parse-queue a q e = go (parsed a q e)
 
 -- ---- .. and is laid out as it stood
 
-marked-back : (a : List ℕ) → Bytes a → 2 ≤ length a → marked (markAt a) (drop 2 a) ≡ a
+pub marked-back : (a : List ℕ) → Bytes a → 2 ≤ length a → marked (markAt a) (drop 2 a) ≡ a
 marked-back [] b h = absurd (omega arith)
 marked-back (x ∷ []) b h = absurd (omega arith)
 marked-back (x ∷ y ∷ l) b h =
@@ -175,9 +175,6 @@ marked-back (x ∷ y ∷ l) b h =
 lays-back : (a later : List ℕ) (n : ℕ) → Bytes a → 2 + n ≤ length a → later ≡ drop (2 + n) a → marked (markAt a) (take n (drop 2 a)) ++ later ≡ a
 lays-back a later n b h e =
     rw (e, ← drop-drop n 2 a, take-append-drop n (drop 2 a)) (marked-back a b (omega arith))
-
-bytes-drop : (n : ℕ) (l : List ℕ) → Bytes l → Bytes (drop n l)
-bytes-drop n l b = bytes-behind (take n l) (drop n l) (rw take-append-drop b)
 
 packets-lay : (ps : List Packet) (a : List ℕ) → Bytes a → packetsIn a ≡ some ps → layoutWaiting ps ≡ a
 packets-lay [] [] b e = refl

@@ -77,7 +77,7 @@ markFrom a i = getD a i 0 * 256 + getD a (i + 1) 0
 abbrev pub isLengthFrom : ℕ → ℕ → List ℕ → ℕ → Bool
 isLengthFrom most n a i = leb 1 n && leb n most && leb (i + 2 + n) (length a)
 
-mark-from : (a : List ℕ) (i : ℕ) → markAt (drop i a) ≡ markFrom a i
+pub mark-from : (a : List ℕ) (i : ℕ) → markAt (drop i a) ≡ markFrom a i
 mark-from a i = rw (getD-drop i a 0 0, getD-drop i a 1 0, add-zero)
 
 room-from : (a : List ℕ) (i n : ℕ) → i ≤ length a → leb (2 + n) (length (drop i a)) ≡ leb (i + 2 + n) (length a)

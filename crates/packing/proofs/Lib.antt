@@ -1,0 +1,7 @@
+pub mod Marks
+pub mod Reading
+pub mod Packed
+pub mod Allowed
+pub mod Filling
+pub mod Bench
+pub mod Examples

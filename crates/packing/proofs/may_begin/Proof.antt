@@ -1,0 +1,15 @@
+use borrow.Author.Tests.{eq-eqb, ne-eqb}
+use Rattle.packing.specs.Reading.{mayBegin}
+use Rattle.packing.proofs.may_begin.Statement.{statement}
+use Rattle.packing.proofs.may_begin.Tie as tie
+
+returns : tie.Need-returns
+unfolding mayBegin
+returns c = simp (eq-eqb _ _ (c .if1 .taken))
+
+returns-2 : tie.Need-returns-2
+unfolding mayBegin
+returns-2 c = simp (ne-eqb _ _ (c .if1 .left))
+
+pub may-begin-spec : {M : Type 1} → statement M
+may-begin-spec = tie.close (tie.spec returns returns-2)

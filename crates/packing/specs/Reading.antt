@@ -1,0 +1,83 @@
+-- Reading an area, record by record from position 0 on, as a loop reads it (01, "Packing, the bench's own").
+use mathlib.Core.Bool.{Bool, true, cond, _&&_, _||_}
+use mathlib.Core.Option.{Option, none, some}
+use mathlib.Core.List.{List, [], _∷_}
+use Prim.Native.Nat.{ℕ, zero, suc, _+_, _/_, _%_}
+use lib.ListN.{length, take, drop}
+use lib.Dec.{leb, ltb, eqb}
+use Rattle.link.specs.Link.{Piece}
+use Rattle.link.specs.Store.{markAt}
+use Rattle.packing.specs.Rules.{shortest}
+use Rattle.packing.specs.declared.Record.{Record}
+use Rattle.packing.specs.declared.Found.{Found}
+use Rattle.packing.specs.declared.Found.the-variants.{At, End, Against}
+
+-- ---------------------------------------------------------------- one mark
+
+abbrev pub isFirst : ℕ → Bool
+isFirst mark = eqb (mark / 32768 % 2) 1
+
+abbrev pub isLast : ℕ → Bool
+isLast mark = eqb (mark / 16384 % 2) 1
+
+abbrev pub lengthIn : ℕ → ℕ
+lengthIn mark = mark % 2048
+
+-- only the first record may lack "first": it stands at position 0
+unfoldable pub mayBegin : ℕ → ℕ → Bool
+mayBegin at mark = eqb at 0 || isFirst mark
+
+-- a record that lacks "last" ends the area; `room` bytes are left in it, with the mark
+unfoldable pub mayEnd : ℕ → ℕ → Bool
+mayEnd room mark = isLast mark || eqb (2 + lengthIn mark) room
+
+-- Bits 13-11 are zero; the length is at least 1, and as many bytes stand behind the mark.
+unfoldable pub isMark : ℕ → ℕ → ℕ → Bool
+isMark at room mark = eqb (mark / 2048 % 8) 0 && leb 1 (lengthIn mark) && leb (2 + lengthIn mark) room && mayBegin at mark && mayEnd room mark
+
+-- ---------------------------------------------------------------- what stands at a position
+
+abbrev pub allZero : List ℕ → Bool
+allZero [] = true
+allZero (byte ∷ bytes) = eqb byte 0 && allZero bytes
+
+-- The records end here: at least one stands before, and all bytes from here on are 0.
+unfoldable pub endAt : List ℕ → ℕ → Found
+endAt area at = cond (eqb at 0) Against (cond (allZero (drop at area)) End Against)
+
+abbrev pub placed : ℕ → ℕ → Record
+placed at mark = record { first = isFirst mark; last = isLast mark; start = at + 2; length = lengthIn mark }
+
+-- Records end where fewer than 3 bytes remain, and at a mark of 0; then `endAt` tells whether they may.
+unfoldable pub recordAt : List ℕ → ℕ → Found
+recordAt area at =
+    let room = length (drop at area) in
+    let mark = markAt (drop at area) in
+    cond (ltb room shortest) (endAt area at) (cond (eqb mark 0) (endAt area at) (cond (isMark at room mark) (At (placed at mark)) Against))
+
+-- ---------------------------------------------------------------- all pieces; none: refusal 14
+
+abbrev pub pieceOf : List ℕ → Record → Piece
+pieceOf area found = record { first = found .first; last = found .last; bytes = take (found .length) (drop (found .start) area) }
+
+abbrev pub withPiece : Piece → Option (List Piece) → Option (List Piece)
+withPiece piece none = none
+withPiece piece (some pieces) = some (piece ∷ pieces)
+
+-- What is found, and how reading goes on behind a record.
+abbrev pub byFound : List ℕ → (ℕ → Option (List Piece)) → Found → Option (List Piece)
+byFound area further (At found) = withPiece (pieceOf area found) (further (found .start + found .length))
+byFound area further End = some []
+byFound area further Against = none
+
+-- from a position on, if there are fewer than k records
+abbrev pub readWithin : ℕ → List ℕ → ℕ → Option (List Piece)
+readWithin zero area at = none
+readWithin (suc k) area at = byFound area (readWithin k area) (recordAt area at)
+
+-- the same, however many there are: they are no more than the bytes (`read-step` in proofs/Reading.antt)
+unfoldable pub readFrom : List ℕ → ℕ → Option (List Piece)
+readFrom area at = readWithin (suc (length area)) area at
+
+unfoldable pub read : List ℕ → Option (List Piece)
+read area = cond (eqb (length area) 1908) (readFrom area 0) none

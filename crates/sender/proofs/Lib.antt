@@ -1,0 +1,7 @@
+pub mod Walk
+pub mod Stands
+pub mod Putting
+pub mod Front
+pub mod Taking
+pub mod Sending
+pub mod Carried

@@ -1,0 +1,90 @@
+-- What a put that is not refused may lean on; any two outcomes of `put` are equal; and what putting does to the queue that the bytes stand for (demand 3).
+use mathlib.Core.Path.{_≡_, refl, sym, ap, _∙_}
+use mathlib.Core.Bool.{Bool, true, false, cond, _&&_}
+use mathlib.Core.List.{List, [], _∷_, _++_}
+use Prim.Native.Nat.{ℕ, _+_, _/_, _%_, _≤_}
+use native.Mathlib.Omega.{arith}
+use lib.Dec.{eqb, leb}
+use lib.ListN.{length, take}
+use borrow.Author.Tests.{eqb-true, leb-true}
+use Rattle.basics.specs.Lists.{Bytes}
+use Rattle.basics.proofs.Tests.{left-true, right-true}
+use Rattle.lent.specs.Outcome.{by}
+use Rattle.lent.specs.Written.{written}
+use Rattle.lent.proofs.Outcome.{gate, accepted}
+use Rattle.lent.proofs.Written.{written-append, take-written}
+use Rattle.link.specs.Link.{IsPacket, Queue, withPacket}
+use Rattle.link.specs.Store.{marked, parse}
+use Rattle.link.proofs.RoundTrip.{parse-put}
+use Rattle.sender.specs.declared.Sender.{Sender}
+use Rattle.sender.specs.declared.PutAnswer.{PutAnswer}
+use Rattle.sender.specs.declared.PutAnswer.the-variants.{Taken, Refused}
+use Rattle.sender.specs.Put.{isUsedWhole, putRefusal, putSender, putBytes, PutOutcome}
+use Rattle.sender.proofs.Stands.{Stands, bytes-take, bytes-written}
+
+pub record PutPassed (queue : List ℕ) (used : ℕ) (packet : List ℕ) : Type 0 where
+  pub long : length queue ≡ 32768
+  pub whole : isUsedWhole queue used ≡ true
+  pub least : 1 ≤ length packet
+  pub most : length packet ≤ 9000
+  pub room : used + 2 + length packet ≤ 32768
+
+pub put-passed : (queue : List ℕ) (used : ℕ) (packet : List ℕ) → putRefusal queue used packet ≡ 0 → PutPassed queue used packet
+unfolding putRefusal
+put-passed queue used packet e =
+    let size = gate (eqb (length queue) 32768) _ 2 (omega arith) e in
+    let whole = gate (isUsedWhole queue used) _ 3 (omega arith) (size .1) in
+    let fits = gate (leb 1 (length packet) && leb (length packet) 9000) _ 4 (omega arith) (whole .1) in
+    let room = gate (leb (used + 2 + length packet) 32768) 0 5 (omega arith) (fits .1) in
+    record {
+      long = eqb-true (length queue) 32768 (size .0);
+      whole = whole .0;
+      least = leb-true 1 (length packet) (left-true (leb 1 (length packet)) (leb (length packet) 9000) (fits .0));
+      most = leb-true (length packet) 9000 (right-true (leb 1 (length packet)) (leb (length packet) 9000) (fits .0));
+      room = leb-true (used + 2 + length packet) 32768 (room .0);
+    }
+
+-- the mark is written, then the packet
+pub put-written : {queue : List ℕ} {used : ℕ} {packet : List ℕ} → PutPassed queue used packet
+    → written (written queue used (length packet / 256 ∷ length packet % 256 ∷ [])) (used + 2) packet ≡ putBytes queue used packet
+put-written {queue} {used} {packet} p =
+    written-append queue used (length packet / 256 ∷ length packet % 256 ∷ []) packet (omega (arith, p .long, p .room))
+
+-- Any two outcomes that the contract of `put` admits are equal.
+pub put-one : (queue : List ℕ) (sender : Sender) (packet : List ℕ) (r₁ r₂ : PutAnswer) (after₁ after₂ : List ℕ)
+    → PutOutcome queue sender packet r₁ after₁ → PutOutcome queue sender packet r₂ after₂ → (r₁ ≡ r₂) × (after₁ ≡ after₂)
+put-one queue sender packet r₁ r₂ after₁ after₂ x y = (x .answer ∙ sym (y .answer), x .bytes ∙ sym (y .bytes))
+
+-- ---- demand 3
+
+-- the answer tells that the packet was taken
+taken-zero : (n : ℕ) (after sender : Sender) → Taken after ≡ by n (Taken sender) (Refused n) → (n ≡ 0) × (after ≡ sender)
+unfolding by
+taken-zero n after sender = go (eqb n 0) refl
+  where
+    go : (test : Bool) → eqb n 0 ≡ test → Taken after ≡ cond test (Taken sender) (Refused n) → (n ≡ 0) × (after ≡ sender)
+    go true t e = (eqb-true n 0 t, cc)
+    go false t e = let z : _≡_ {A = ℕ} 0 1 = cc in absurd (omega arith)
+
+-- What is taken is a packet, and stands behind the others: `puts` of link's Machine.
+pub put-stands : (bytes : List ℕ) (sender : Sender) (packet : List ℕ) (sender′ : Sender) (bytes′ : List ℕ) (i : ℕ) (queue : Queue)
+    → PutOutcome bytes sender packet (Taken sender′) bytes′ → Bytes packet → Stands bytes sender i queue
+    → IsPacket packet × Stands bytes′ sender′ i (withPacket queue packet)
+put-stands bytes sender packet sender′ bytes′ i queue outcome p s =
+    let used = sender .used in
+    let number = putRefusal bytes used packet in
+    let taken = taken-zero number sender′ (putSender sender packet) (outcome .answer) in
+    let passed = put-passed bytes used packet (taken .0) in
+    let is-packet : IsPacket packet = (passed .least, passed .most) in
+    let mark = marked (length packet) packet in
+    let new : bytes′ ≡ putBytes bytes used packet = outcome .bytes ∙ sym (accepted number number _ bytes _ refl (taken .0) refl) in
+    let long : used + 2 + length packet ≡ used + length mark = omega arith in
+    let front : take (used + 2 + length packet) (putBytes bytes used packet) ≡ take used bytes ++ mark =
+    ap (λ (n : ℕ). take n (putBytes bytes used packet)) long ∙ take-written bytes used mark (omega (arith, passed .long, passed .room)) in (
+      is-packet,
+      rw (taken .1, new) (record {
+        are-bytes = bytes-written bytes used mark (s .are-bytes) (omega (arith, passed .most), (omega arith, p));
+        parsed = ap parse front ∙ parse-put (take used bytes) queue packet (bytes-take used bytes (s .are-bytes)) (s .parsed) is-packet;
+        number = s .number;
+      }),
+    )

@@ -1,0 +1,116 @@
+-- What a frame that is not refused may lean on, how filling and settling meet the contract of `next_frame`, and that any two of its outcomes are equal.
+use mathlib.Core.Path.{_≡_, refl, sym, ap, _∙_}
+use mathlib.Core.Bool.{true, cond, _&&_}
+use mathlib.Core.Option.{Option, none, some}
+use mathlib.Core.List.{List, [], _∷_, _++_}
+use Prim.Native.Nat.{ℕ, _≤_}
+use native.Mathlib.Omega.{arith}
+use lib.Dec.{eqb, leb}
+use lib.ListN.{length, take, drop}
+use lib.Seq.{length-take-le}
+use borrow.Author.Tests.{eqb-true, leb-true, eq-eqb, ne-eqb}
+use Rattle.basics.specs.Lists.{Bytes}
+use Rattle.basics.proofs.Tests.{left-true, right-true}
+use Rattle.lent.proofs.Outcome.{gate}
+use Rattle.link.specs.Link.{Packet, Queue, Cut}
+use Rattle.link.specs.Store.{layoutRest, layoutWaiting, layout, isWhole}
+use Rattle.link.proofs.RoundTrip.{parse-queue, layout-back}
+use Rattle.packing.specs.Filling.{fillWaiting, area}
+use Rattle.packing.proofs.Filling.{fill-cut}
+use Rattle.scrambler.specs.Scrambler.{tapsAllowed}
+use Rattle.header.specs.Header.{fieldsFit}
+use Rattle.header.specs.declared.Fields.{Fields}
+use Rattle.header.specs.declared.Txfn.{Txfn}
+use Rattle.header.specs.declared.FrameKind.{FrameKind}
+use Rattle.header.specs.declared.FrameKind.the-variants.{Idle, Data}
+use Rattle.sender.specs.Put.{isUsedWhole}
+use Rattle.sender.specs.Next.{kindFor, areaFor, leftIn, queueIn, nextRefusal, NextOutcome}
+use Rattle.sender.specs.Filling.{remaining, FillOutcome}
+use Rattle.sender.specs.declared.Sender.{Sender}
+use Rattle.sender.specs.declared.NextAnswer.{NextAnswer}
+use Rattle.sender.specs.declared.NextAnswer.the-variants.{Sent}
+use Rattle.sender.specs.declared.filling.Filled.{Filled}
+use Rattle.sender.proofs.Stands.{bytes-take}
+use Rattle.sender.proofs.Taking.{whole-parsed}
+
+pub record NextPassed (taps : ℕ) (fields : Fields) (used : ℕ) (queue out : List ℕ) : Type 0 where
+  pub allowed : tapsAllowed taps ≡ true
+  pub long : length queue ≡ 32768
+  pub room : 2081 ≤ length out
+  pub within : used ≤ 32768
+  pub whole : isWhole (take used queue) ≡ true
+  pub fits : fieldsFit fields ≡ true
+
+pub next-passed : (taps : ℕ) (fields : Fields) (used : ℕ) (queue out : List ℕ) → nextRefusal taps fields used queue out ≡ 0 → NextPassed taps fields used queue out
+unfolding nextRefusal isUsedWhole
+next-passed taps fields used queue out e =
+    let allowed = gate (tapsAllowed taps) _ 1 (omega arith) e in
+    let sizes = gate (eqb (length queue) 32768 && leb 2081 (length out)) _ 2 (omega arith) (allowed .1) in
+    let whole = gate (leb used 32768 && isWhole (take used queue)) _ 3 (omega arith) (sizes .1) in
+    let fits = gate (fieldsFit fields) 0 6 (omega arith) (whole .1) in
+    record {
+      allowed = allowed .0;
+      long = eqb-true (length queue) 32768 (left-true (eqb (length queue) 32768) (leb 2081 (length out)) (sizes .0));
+      room = leb-true 2081 (length out) (right-true (eqb (length queue) 32768) (leb 2081 (length out)) (sizes .0));
+      within = leb-true used 32768 (left-true (leb used 32768) (isWhole (take used queue)) (whole .0));
+      whole = right-true (leb used 32768) (isWhole (take used queue)) (whole .0);
+      fits = fits .0;
+    }
+
+-- ---- from what filling did to the contract
+
+-- an area of no records is zeros
+pub idle-area : (q : Queue) → area q ≡ areaFor q
+unfolding area fillWaiting
+idle-area q = go (q .rest) (q .waiting)
+  where
+    go : (rest : Option (List ℕ)) (ps : List Packet) → area (record { rest = rest; waiting = ps }) ≡ areaFor (record { rest = rest; waiting = ps })
+    go none [] = refl
+    go none (p ∷ ps) = refl
+    go (some rest) ps = refl
+
+-- a queue is busy where it has bytes
+busy-kind : (q : Queue) (used : ℕ) → used ≡ length (layout q) → cond (eqb used 0) Idle Data ≡ kindFor q
+unfolding layout
+busy-kind q used = go (q .rest) (q .waiting)
+  where
+    go : (rest : Option (List ℕ)) (ps : List Packet) → used ≡ length (layoutRest rest ++ layoutWaiting ps)
+        → cond (eqb used 0) Idle Data ≡ kindFor (record { rest = rest; waiting = ps })
+    go none [] e = rw (eq-eqb used 0 e)
+    go none (p ∷ ps) e = rw (ne-eqb used 0 (λ z. omega arith))
+    go (some rest) ps e = rw (ne-eqb used 0 (λ z. omega arith))
+
+module _ {taps : ℕ} {fields : Fields} {used : ℕ} {queue out : List ℕ} (p : NextPassed taps fields used queue out) where
+  abbrev waiting : Queue
+  waiting = queueIn (take used queue)
+
+  pub used-length : length (take used queue) ≡ used
+  used-length = length-take-le used queue (omega (arith, p .within, p .long))
+
+  pub kind-is : Bytes queue → cond (eqb used 0) Idle Data ≡ kindFor waiting
+  kind-is b =
+      let is = layout-back (take used queue) waiting (bytes-take used queue b) (whole-parsed (take used queue) (p .whole)) in
+      busy-kind waiting used (sym (ap length is ∙ used-length))
+
+  module _ {filled : Filled} {after : List ℕ} (o : FillOutcome (take used queue) filled after) where
+    pub area-is : after ≡ areaFor waiting
+    area-is = o .filled ∙ idle-area waiting
+
+    pub rest-is : remaining (filled .unsent) (drop (filled .start) (take used queue)) ≡ layout (leftIn waiting)
+    rest-is =
+        sym (o .rest) ∙ ap (λ (c : Cut). layout (c .left)) (fill-cut waiting (parse-queue (take used queue) waiting (whole-parsed (take used queue) (p .whole))))
+
+    pub start-within : filled .start ≤ used
+    start-within = omega (arith, o .inside, used-length)
+
+-- Any two outcomes that the contract of `next_frame` admits are equal.
+pub next-frame-one : (taps : ℕ) (fields : Fields) (sender : Sender) (queue out : List ℕ) (r₁ r₂ : NextAnswer) (queue₁ queue₂ out₁ out₂ : List ℕ)
+    → NextOutcome taps fields sender queue out r₁ queue₁ out₁ → NextOutcome taps fields sender queue out r₂ queue₂ out₂
+    → (r₁ ≡ r₂) × (queue₁ ≡ queue₂) × (out₁ ≡ out₂)
+next-frame-one taps fields sender queue out r₁ r₂ queue₁ queue₂ out₁ out₂ x y =
+    (x .answer ∙ sym (y .answer), x .bytes ∙ sym (y .bytes), x .frame ∙ sym (y .frame))
+
+-- an answer, part by part
+pub sent-path : {used used′ : ℕ} {next : Txfn} {count : ℕ} {kind kind′ : FrameKind} → used ≡ used′ → next .0 ≡ count → kind ≡ kind′
+    → Sent (record { used = used; next = next }) kind ≡ Sent (record { used = used′; next = record { 0 = count } }) kind′
+sent-path p q r i = Sent (record { used = p i; next = record { 0 = q i } }) (r i)

@@ -1,0 +1,80 @@
+-- Building the next frame (01, "Next frame"), for all inputs. A refusal's number is 0 where nothing is refused (01, "Refusal numbers").
+use mathlib.Core.Path.{_≡_}
+use mathlib.Core.Bool.{cond, _&&_}
+use mathlib.Core.Option.{Option, none, some}
+use mathlib.Core.List.{List}
+use Prim.Native.Nat.{ℕ}
+use lib.Dec.{eqb, leb}
+use lib.ListN.{length, take}
+use Rattle.basics.specs.Lists.{zeros}
+use Rattle.lent.specs.Outcome.{by}
+use Rattle.lent.specs.Written.{written}
+use Rattle.link.specs.Link.{Queue, empty, cut}
+use Rattle.link.specs.Packing.{busy}
+use Rattle.link.specs.Store.{layout, parse}
+use Rattle.packing.specs.Filling.{load, area}
+use Rattle.scrambler.specs.Scrambler.{tapsAllowed}
+use Rattle.header.specs.Counts.{nextTxfn}
+use Rattle.header.specs.Header.{fieldsFit}
+use Rattle.header.specs.declared.Fields.{Fields}
+use Rattle.header.specs.declared.FrameKind.{FrameKind}
+use Rattle.header.specs.declared.FrameKind.the-variants.{Idle, Data}
+use Rattle.header.specs.declared.Header.{Header}
+use Rattle.frame.specs.Frame.{frameBytes}
+use Rattle.sender.specs.Put.{isUsedWhole}
+use Rattle.sender.specs.declared.Sender.{Sender}
+use Rattle.sender.specs.declared.NextAnswer.{NextAnswer}
+use Rattle.sender.specs.declared.NextAnswer.the-variants.{Sent, Refused}
+
+-- ---------------------------------------------------------------- the frame for a queue
+
+-- DATA where a byte waits, otherwise IDLE with an area of zeros
+abbrev pub kindFor : Queue → FrameKind
+kindFor queue = cond (busy queue) Data Idle
+
+abbrev pub areaFor : Queue → List ℕ
+areaFor queue = cond (busy queue) (area queue) (zeros 1908)
+
+-- TXFN is the sender's own count
+abbrev pub headerFor : Sender → Fields → Queue → Header
+headerFor sender fields queue = record { txfn = sender .next; kind = kindFor queue; fields = fields }
+
+-- what remains
+abbrev pub leftIn : Queue → Queue
+leftIn queue = cut (load queue) queue .left
+
+-- the sender after a frame: TXFN steps for every type
+abbrev pub senderAfter : Sender → Queue → Sender
+senderAfter sender queue = record { used = length (layout (leftIn queue)); next = record { 0 = nextTxfn (sender .next .0) } }
+
+-- ---------------------------------------------------------------- the call
+
+-- the queue that bytes stand for; where they stand for none the call is refused, and the empty one is not used
+abbrev pub orEmpty : Option Queue → Queue
+orEmpty none = empty
+orEmpty (some queue) = queue
+
+unfoldable pub queueIn : List ℕ → Queue
+queueIn bytes = orEmpty (parse bytes)
+
+-- the lowest number that applies, 0 for none
+unfoldable pub nextRefusal : ℕ → Fields → ℕ → List ℕ → List ℕ → ℕ
+nextRefusal taps fields used queue out =
+    cond (tapsAllowed taps)
+    (cond (eqb (length queue) 32768 && leb 2081 (length out))
+    (cond (isUsedWhole queue used)
+    (cond (fieldsFit fields) 0 6) 3) 2) 1
+
+module _ (taps : ℕ) (fields : Fields) (sender : Sender) (queue out : List ℕ) where
+  abbrev number : ℕ
+  number = nextRefusal taps fields (sender .used) queue out
+
+  abbrev waiting : Queue
+  waiting = queueIn (take (sender .used) queue)
+
+  -- The whole outcome of `next_frame`: the answer, and the bytes of the queue and of out. What remains moves to the front of the queue, and the frame is written to
+  -- the front of out; all other bytes keep their values.
+  pub record NextOutcome (r : NextAnswer) (queue′ out′ : List ℕ) : Type 0 where
+    pub answer : r ≡ by number (Sent (senderAfter sender waiting) (kindFor waiting)) (Refused number)
+    pub bytes : queue′ ≡ by number (written queue 0 (layout (leftIn waiting))) queue
+    pub frame : out′ ≡ by number (written out 0 (frameBytes taps (headerFor sender fields waiting) (areaFor waiting))) out

@@ -1,0 +1,42 @@
+-- Putting a packet into the queue (01, "Queue"), for all inputs. A refusal's number is 0 where nothing is refused (01, "Refusal numbers").
+use mathlib.Core.Path.{_≡_}
+use mathlib.Core.Bool.{Bool, cond, _&&_}
+use mathlib.Core.List.{List}
+use Prim.Native.Nat.{ℕ, _+_}
+use lib.Dec.{eqb, leb}
+use lib.ListN.{length, take}
+use Rattle.lent.specs.Outcome.{by}
+use Rattle.lent.specs.Written.{written}
+use Rattle.link.specs.Store.{marked, isWhole}
+use Rattle.sender.specs.declared.Sender.{Sender}
+use Rattle.sender.specs.declared.PutAnswer.{PutAnswer}
+use Rattle.sender.specs.declared.PutAnswer.the-variants.{Taken, Refused}
+
+-- nothing is used, and the first frame is frame 0
+abbrev pub freshSender : Sender
+freshSender = record { used = 0; next = record { 0 = 0 } }
+
+-- the used bytes of a queue of 32,768 stand for waiting packets (otherwise refusal 3); the bytes behind them are not looked at
+unfoldable pub isUsedWhole : List ℕ → ℕ → Bool
+isUsedWhole queue used = leb used 32768 && isWhole (take used queue)
+
+-- the lowest number that applies, 0 for none
+unfoldable pub putRefusal : List ℕ → ℕ → List ℕ → ℕ
+putRefusal queue used packet =
+    cond (eqb (length queue) 32768)
+    (cond (isUsedWhole queue used)
+    (cond (leb 1 (length packet) && leb (length packet) 9000)
+    (cond (leb (used + 2 + length packet) 32768) 0 5) 4) 3) 2
+
+-- the sender with a packet put: its mark and its bytes are used, and the next frame is the same
+abbrev pub putSender : Sender → List ℕ → Sender
+putSender sender packet = record { used = sender .used + 2 + length packet; next = sender .next }
+
+-- the queue with a packet put: its mark, which is its length, and its bytes behind the used ones; nothing else is touched
+abbrev pub putBytes : List ℕ → ℕ → List ℕ → List ℕ
+putBytes queue used packet = written queue used (marked (length packet) packet)
+
+-- the whole outcome of `put`: the answer, and the queue's bytes
+pub record PutOutcome (queue : List ℕ) (sender : Sender) (packet : List ℕ) (r : PutAnswer) (after : List ℕ) : Type 0 where
+  pub answer : r ≡ by (putRefusal queue (sender .used) packet) (Taken (putSender sender packet)) (Refused (putRefusal queue (sender .used) packet))
+  pub bytes : after ≡ by (putRefusal queue (sender .used) packet) (putBytes queue (sender .used) packet) queue
