@@ -2,7 +2,9 @@
 
 Its results are compared with those of the proved libraries (crates/trials), so it shares nothing with them: no table,
 no shift register, no trick. Each function does what the definition says, by the longest way: long division on numbers
-and lists, the generator multiplied out from its factors, the scrambler as one list of bits. It is slow, and may be.
+and lists, the generator multiplied out from its factors, the scrambler as one list of bits. It is slow, and may be;
+only products and scrambler's bits that it has found once are kept (`lru_cache`). Headers and whole frames are in
+second_frames.py.
 
 "000" is the SDA OISL Standard 2.1.2, "01" the scope paper. Where both speak, 01 decides.
 Standard library only. Run by itself, it tries numbers that are published.
@@ -10,6 +12,7 @@ Standard library only. Run by itself, it tries numbers that are published.
 
 import binascii
 import zlib
+from functools import lru_cache
 
 # ---------------------------------------------------------------------------------------------------------------------
 # Polynomials over the field of two elements, each as one number: bit k is the coefficient of x^k.
@@ -65,6 +68,7 @@ def crc_32(message):
 FIELD = polynomial(8, 7, 2, 1, 0)
 
 
+@lru_cache(maxsize=None)
 def product(a, b):
     return bit_remainder(bit_product(a, b), FIELD)
 
@@ -175,6 +179,7 @@ def are_taps(taps):
     return taps < 2**STAGES and taps % 2 == 1
 
 
+@lru_cache(maxsize=8)
 def scrambler_bits(taps, count):
     """s0, s1, .. as one list: s(k+25) is 1 exactly when an odd number of s(k+i) are 1, over the taps i that are set."""
     s = [1, 1, 1] + [0] * 22

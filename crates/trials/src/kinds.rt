@@ -1,10 +1,14 @@
 // The kinds of record: which function tries one, and its line in the table. Numbers are never used for another kind.
-use crate::codes;
+use code_trials::codes;
+use frame_trials::Lent;
+use frame_trials::frames;
+use header_trials::headers;
 use vectors::outcome::Outcome;
 use vectors::tally::Tally;
 use vectors::text;
 
-pub fn outcome(kind: u8, body: &mut [u8]) -> Outcome {
+// The frame at hand is the last that a record brought.
+pub fn outcome(kind: u8, body: &mut [u8], at_hand: &mut Lent) -> Outcome {
     match kind {
         1 => codes::crc_16(body),
         2 => codes::crc_32(body),
@@ -15,6 +19,12 @@ pub fn outcome(kind: u8, body: &mut [u8]) -> Outcome {
         7 => codes::payload_judged(body),
         8 => codes::taps(body),
         9 => codes::scrambled(body),
+        10 => headers::level(body),
+        11 => headers::coded(body),
+        12 => headers::read(body),
+        13 => frames::built(body, at_hand),
+        14 => frames::opened(body, at_hand),
+        15 => frames::refused(body, at_hand),
         _ => Outcome::Malformed,
     }
 }
@@ -30,4 +40,10 @@ pub fn print(tally: Tally) {
     tally.print_kind(7, b"payload judged");
     tally.print_kind(8, b"taps judged");
     tally.print_kind(9, b"bytes scrambled");
+    tally.print_kind(10, b"level");
+    tally.print_kind(11, b"header coded");
+    tally.print_kind(12, b"header read");
+    tally.print_kind(13, b"frame built");
+    tally.print_kind(14, b"frame opened");
+    tally.print_kind(15, b"frame refused");
 }

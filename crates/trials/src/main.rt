@@ -1,29 +1,30 @@
 // Runs the proved libraries against published check values and against the second coder's vectors, which it reads from
 // standard input, and prints how many agree. `tests/README.md` says where the vectors come from.
-mod codes;
 mod kinds;
-mod published;
 
+use code_trials::published;
+use frame_trials::Lent;
+use frame_trials::frames;
 use vectors::record;
 use vectors::record::Head;
 use vectors::tally::Tally;
 use vectors::text;
 
 // Reads the body of a record, and tries it. The 65,536 bytes that are lent have room for every body.
-fn tried(tally: Tally, kind: u8, length: usize, lent: &mut [u8]) -> Tally {
+fn tried(tally: Tally, kind: u8, length: usize, lent: &mut [u8], at_hand: &mut Lent) -> Tally {
     if lent.len() < length {
         return tally.cut_short();
     }
     let body = &mut lent[0..length];
     if record::is_read(body) {
-        return tally.with(kind, kinds::outcome(kind, body));
+        return tally.with(kind, kinds::outcome(kind, body, at_hand));
     }
     tally.cut_short()
 }
 
-fn next_tried(tally: Tally, lent: &mut [u8]) -> Tally {
+fn next_tried(tally: Tally, lent: &mut [u8], at_hand: &mut Lent) -> Tally {
     match record::read_head() {
-        Head::Record { kind, length } => tried(tally, kind, length, lent),
+        Head::Record { kind, length } => tried(tally, kind, length, lent, at_hand),
         Head::Short => tally.cut_short(),
     }
 }
@@ -32,8 +33,9 @@ fn next_tried(tally: Tally, lent: &mut [u8]) -> Tally {
 fn all_tried(announced: u64, lent: &mut [u8]) -> Tally {
     let mut tally = Tally::new();
     let mut left = announced;
+    let mut at_hand = frames::none_at_hand();
     while 0 < left && tally.goes_on {
-        let next = next_tried(tally, lent);
+        let next = next_tried(tally, lent, &mut at_hand);
         tally = next;
         left -= 1;
     }

@@ -19,3 +19,14 @@ pub fn of(found: &[u8], expected: &[u8]) -> Outcome
         Outcome::Different
     }
 }
+
+// What two results of one record come to: the same only where both are.
+pub fn both(first: Outcome, second: Outcome) -> Outcome
+    ensures { λ r. ⌜ (r ≡ Outcome.Same) ↔ ((first ≡ Outcome.Same) × (second ≡ Outcome.Same)) ⌝ }
+{
+    match first {
+        Outcome::Same => second,
+        Outcome::Different => Outcome::Different,
+        Outcome::Malformed => Outcome::Malformed,
+    }
+}

@@ -7,13 +7,16 @@ use Rattle.trials.proofs.all_tried.Statement.{statement}
 use Rattle.trials.proofs.all_tried.Tie as tie
 
 abbrev Inv-loop : tie.InvT-loop
-Inv-loop announced lent₀ tally₀ left₀ lent tally left = length lent ≡ length lent₀
+Inv-loop announced lent₀ tally₀ left₀ at-hand₀ lent tally left at-hand = length lent ≡ length lent₀
 
 abbrev μ-loop : tie.MeasureT-loop
-μ-loop announced lent₀ tally₀ left₀ lent tally left = left
+μ-loop announced lent₀ tally₀ left₀ at-hand₀ lent tally left at-hand = left
 
 new-requires : tie.Need-new-requires Inv-loop μ-loop
 new-requires c κs = search needs
+
+none-at-hand-requires : tie.Need-none-at-hand-requires Inv-loop μ-loop
+none-at-hand-requires c κs = search needs
 
 loop-holds : tie.Need-loop-holds Inv-loop μ-loop
 loop-holds c = search needs
@@ -49,6 +52,7 @@ all-tried-spec =
     Inv-loop
     μ-loop
     new-requires
+    none-at-hand-requires
     loop-holds
     next-tried-requires
     sub-left

@@ -1,0 +1,74 @@
+// The bytes that are lent to a call, before it and after it.
+ghost use mathlib.Core.Path.{_≡_};
+ghost use Prim.Native.Nat.{_≤_};
+ghost use lib.ListN.{length};
+use crate::Lent;
+use vectors::numbers;
+use vectors::outcome;
+use vectors::outcome::Outcome;
+
+// Fills the bytes with a pattern, again and again. An empty one leaves them as they are.
+fn repeat(pattern: &[u8], bytes: &mut [u8]) {
+    let period = pattern.len();
+    if period == 0 {
+        return;
+    }
+    let mut i: usize = 0;
+    while i < bytes.len() {
+        bytes[i] = pattern[i % period];
+        i += 1;
+    }
+}
+
+// An area, as a record holds it: a pattern that is repeated up to 1,908 bytes.
+pub fn area(pattern: &[u8]) -> [u8; 1908] {
+    let mut area = [0u8; 1908];
+    repeat(pattern, &mut area);
+    area
+}
+
+// Lent bytes before a call.
+pub fn kept() -> Lent {
+    let mut lent = [0u8; 2100];
+    repeat(b"kept", &mut lent);
+    lent
+}
+
+// The same, with some bytes at the front.
+pub fn kept_behind(front: &[u8]) -> Lent
+    requires { ⌜ length (now front) ≤ 2100 ⌝ }
+{
+    let mut lent = kept();
+    lent::write_at(&mut lent, 0, front);
+    lent
+}
+
+// Whether a call left what it should, in every byte.
+pub fn outcome(found: &Lent, expected: &Lent) -> Outcome {
+    outcome::of(found, expected)
+}
+
+fn change_one(change: &[u8], frame: &mut [u8])
+    requires { ⌜ length (now change) ≡ 3 ⌝ }
+{
+    let place = numbers::of_two(change[0], change[1]) as usize;
+    if place < frame.len() {
+        frame[place] = frame[place] ^ change[2];
+    }
+}
+
+fn change(changes: &[u8], frame: &mut [u8]) {
+    let count = changes.len() / 3;
+    let mut i: usize = 0;
+    while i < count {
+        change_one(&changes[3 * i..3 * i + 3], frame);
+        i += 1;
+    }
+}
+
+// A frame with some bytes changed: each three bytes are a place, in two bytes, and what is added modulo 2 to the byte there.
+pub fn changed(frame: &Lent, changes: &[u8]) -> Lent {
+    let mut next = kept_behind(frame);
+    change(changes, &mut next);
+    next
+}

@@ -1,0 +1,160 @@
+// A header as the vectors hold it, field by field in 24 bytes, a number's high byte first: TXFN 2, type, RXFN 2, ACK,
+// ACK-valid, TX_TS 8, seconds, TS-applies, the message's kind, its numbers 2 each. Each field has more room than on the
+// wire, so that one that is too large can be given.
+ghost use Prim.Native.Nat.{_≤_, _<_};
+ghost use lib.ListN.{length};
+use crate::messages;
+use crate::messages::Message;
+use header::Fields;
+use header::FrameKind;
+use header::Header;
+use header::Rxfn;
+use header::Txfn;
+use vectors::numbers;
+
+fn kind_number(kind: FrameKind) -> u8 {
+    match kind {
+        FrameKind::Idle => 0,
+        FrameKind::Data => 1,
+        FrameKind::Type2 => 2,
+        FrameKind::Type3 => 3,
+    }
+}
+
+fn kind_of(number: u8) -> FrameKind {
+    match number {
+        0 => FrameKind::Idle,
+        1 => FrameKind::Data,
+        2 => FrameKind::Type2,
+        _ => FrameKind::Type3,
+    }
+}
+
+fn number_of(high: u8, low: u8) -> u16 {
+    numbers::of_two(high, low) as u16
+}
+
+fn wide(number: u32) -> u64
+    ensures { λ r. ⌜ r < 4294967296 ⌝ }
+{
+    number as u64
+}
+
+fn stamp_bytes(stamp: u64) -> [u8; 8] {
+    let high = numbers::four_bytes((stamp / 4294967296) as u32);
+    let low = numbers::four_bytes((stamp % 4294967296) as u32);
+    [
+        high[0],
+        high[1],
+        high[2],
+        high[3],
+        low[0],
+        low[1],
+        low[2],
+        low[3],
+    ]
+}
+
+fn stamp_of(bytes: &[u8; 24]) -> u64 {
+    let high = numbers::of_four(bytes[7], bytes[8], bytes[9], bytes[10]);
+    let low = numbers::of_four(bytes[11], bytes[12], bytes[13], bytes[14]);
+    wide(high) * 4294967296 + wide(low)
+}
+
+// Every field of a header.
+pub fn bytes(header: Header) -> [u8; 24] {
+    let kind = header.kind;
+    let fields = header.fields;
+    let channel = fields.message;
+    let message = messages::numbers(channel);
+    let txfn = numbers::two_bytes(header.txfn.0);
+    let rxfn = numbers::two_bytes(fields.rxfn.0);
+    let stamp = stamp_bytes(fields.stamp);
+    let first = numbers::two_bytes(message.first);
+    let second = numbers::two_bytes(message.second);
+    let third = numbers::two_bytes(message.third);
+    [
+        txfn[0],
+        txfn[1],
+        kind_number(kind),
+        rxfn[0],
+        rxfn[1],
+        fields.ack as u8,
+        fields.valid as u8,
+        stamp[0],
+        stamp[1],
+        stamp[2],
+        stamp[3],
+        stamp[4],
+        stamp[5],
+        stamp[6],
+        stamp[7],
+        fields.seconds,
+        fields.applies,
+        message.kind,
+        first[0],
+        first[1],
+        second[0],
+        second[1],
+        third[0],
+        third[1],
+    ]
+}
+
+fn message_of(bytes: &[u8; 24]) -> Message {
+    Message {
+        kind: bytes[17],
+        first: number_of(bytes[18], bytes[19]),
+        second: number_of(bytes[20], bytes[21]),
+        third: number_of(bytes[22], bytes[23]),
+    }
+}
+
+// The header of 24 bytes.
+pub fn header(bytes: &[u8; 24]) -> Header {
+    let kind = kind_of(bytes[2]);
+    let message = messages::channel(message_of(bytes));
+    let fields = Fields {
+        rxfn: Rxfn(number_of(bytes[3], bytes[4])),
+        ack: bytes[5] != 0,
+        valid: bytes[6] != 0,
+        stamp: stamp_of(bytes),
+        seconds: bytes[15],
+        applies: bytes[16],
+        message,
+    };
+    Header {
+        txfn: Txfn(number_of(bytes[0], bytes[1])),
+        kind,
+        fields,
+    }
+}
+
+// Whether the 24 bytes are those of a header: its bytes are these again.
+pub fn are_a_header(given: &[u8; 24]) -> bool {
+    let again = bytes(header(given));
+    check::same(&again, given)
+}
+
+// The first 24 bytes of a body.
+pub fn first(body: &[u8]) -> [u8; 24]
+    requires { ⌜ 24 ≤ length (now body) ⌝ }
+{
+    let mut first = [0u8; 24];
+    lent::write_at(&mut first, 0, &body[0..24]);
+    first
+}
+
+// An answer in 25 bytes: the refusal's number, 0 for none, and every field of the header, all 0 where it is refused.
+pub fn accepted(header: Header) -> [u8; 25] {
+    let fields = bytes(header);
+    let mut answer = [0u8; 25];
+    lent::write_at(&mut answer, 1, &fields);
+    answer
+}
+
+pub fn refused(number: u8) -> [u8; 25] {
+    let mut answer = [0u8; 25];
+    answer[0] = number;
+    answer
+}

@@ -1,0 +1,64 @@
+// The kinds of record that try the level and the bare header.
+use crate::fields;
+use header::CodeAnswer;
+use header::ReadAnswer;
+use vectors::numbers;
+use vectors::outcome;
+use vectors::outcome::Outcome;
+
+// How far the level of a code lies below 0.
+fn below_zero(code: u8) -> u32 {
+    (0 - header::level(code)) as u32
+}
+
+// A code, and how far its level lies below 0, in four bytes.
+pub fn level(body: &[u8]) -> Outcome {
+    if body.len() < 1 {
+        return Outcome::Malformed;
+    }
+    let found = numbers::four_bytes(below_zero(body[0]));
+    outcome::of(&found, &body[1..])
+}
+
+fn code_number(answer: CodeAnswer) -> u8 {
+    match answer {
+        CodeAnswer::Coded => 0,
+        CodeAnswer::Refused(number) => number,
+    }
+}
+
+// The fields of a header and the bytes lent; the refusal's number, and the bytes lent after the call.
+pub fn coded(body: &mut [u8]) -> Outcome {
+    if body.len() < 25 {
+        return Outcome::Malformed;
+    }
+    let given = fields::first(body);
+    if !fields::are_a_header(&given) {
+        return Outcome::Malformed;
+    }
+    let end = 24 + (body.len() - 25) / 2;
+    let header = fields::header(&given);
+    let number = [code_number(header::code_header(header, &mut body[24..end]))];
+    outcome::both(
+        outcome::of(&number, &body[end..end + 1]),
+        outcome::of(&body[24..end], &body[end + 1..]),
+    )
+}
+
+// What reading answers, in 25 bytes: the refusal's number and no fields, or 0 and every field.
+fn read_bytes(answer: ReadAnswer) -> [u8; 25] {
+    match answer {
+        ReadAnswer::Read(header) => fields::accepted(header),
+        ReadAnswer::Refused(number) => fields::refused(number),
+    }
+}
+
+// The bytes to read; the refusal's number, and the fields of the header read, 0 where it is refused.
+pub fn read(body: &[u8]) -> Outcome {
+    if body.len() < 25 {
+        return Outcome::Malformed;
+    }
+    let end = body.len() - 25;
+    let found = read_bytes(header::read_header(&body[0..end]));
+    outcome::of(&found, &body[end..])
+}
