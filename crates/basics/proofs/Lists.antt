@@ -28,6 +28,15 @@ pub bytes-behind : (p q : List ℕ) → Bytes (p ++ q) → Bytes q
 bytes-behind [] q h = h
 bytes-behind (x ∷ p) q h = bytes-behind p q (h .1)
 
+pub bytes-append : (p q : List ℕ) → Bytes p → Bytes q → Bytes (p ++ q)
+bytes-append [] q g h = h
+bytes-append (x ∷ p) q g h = (g .0, bytes-append p q (g .1) h)
+
+-- numbers below 256, place by place
+pub bytes-each : (l : List ℕ) → ((i : ℕ) → getD l i 0 < 256) → Bytes l
+bytes-each [] h = tt
+bytes-each (x ∷ l) h = (h 0, bytes-each l (λ i. h (suc i)))
+
 pub bytes-drop : (n : ℕ) (l : List ℕ) → Bytes l → Bytes (drop n l)
 bytes-drop n l h = bytes-behind (take n l) (drop n l) (subst Bytes (sym (take-append-drop n l)) h)
 

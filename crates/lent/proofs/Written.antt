@@ -7,6 +7,8 @@ use native.Mathlib.Numerals.{add-one}
 use native.Mathlib.Omega.{arith}
 use lib.ListN.{length, getD, take, drop, set, length-take, length-drop, length-append, drop-of-length-le}
 use lib.Seq.{paste, paste-zero, paste-suc, getD-append-add, getD-drop, take-at, drop-at, drop-drop, drop-length, take-length, take-all}
+use Rattle.basics.specs.Lists.{Bytes}
+use Rattle.basics.proofs.Lists.{bytes-append, bytes-take, bytes-drop}
 use Rattle.lent.specs.Written.{written}
 
 module _ (d : List ℕ) (at : ℕ) (s : List ℕ) (h : at + length s ≤ length d) where
@@ -83,3 +85,9 @@ written-parts d s t at e h =
     let whole : length (s ++ t) ≡ length d = simp length-append (omega arith) in
     let next : 0 + length s ≡ at = zero-add (length s) ∙ e in
     ap (λ (i : ℕ). written (written d 0 s) i t) (sym next) ∙ written-append d 0 s t (omega arith) ∙ written-whole d (s ++ t) whole
+
+-- bytes that are written into bytes are bytes
+pub bytes-written : (d : List ℕ) (at : ℕ) (s : List ℕ) → Bytes d → Bytes s → Bytes (written d at s)
+unfolding written
+bytes-written d at s b c =
+    bytes-append (take at d ++ s) (drop (at + length s) d) (bytes-append (take at d) s (bytes-take at d b) c) (bytes-drop (at + length s) d b)

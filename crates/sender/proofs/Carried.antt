@@ -10,7 +10,7 @@ use lib.ListN.{length, take, drop, length-append}
 use lib.Seq.{take-at}
 use borrow.Author.Tests.{eqb-true, lt-ltb}
 use Rattle.basics.specs.Lists.{Bytes}
-use Rattle.basics.proofs.Lists.{bytes-front, bytes-behind, zeros-length}
+use Rattle.basics.proofs.Lists.{bytes-append, bytes-behind, bytes-drop, bytes-front, bytes-take, zeros-length}
 use Rattle.basics.proofs.Tests.{both-true}
 use Rattle.lent.specs.Outcome.{by}
 use Rattle.lent.specs.Written.{written}
@@ -34,7 +34,8 @@ use Rattle.scrambler.specs.Scrambler.{scrambled}
 use Rattle.sender.specs.Next.{areaFor, headerFor, leftIn, senderAfter, kindFor, orEmpty, queueIn, nextRefusal, NextOutcome}
 use Rattle.sender.specs.declared.Sender.{Sender}
 use Rattle.sender.specs.declared.NextAnswer.the-variants.{Sent, Refused}
-use Rattle.sender.proofs.Stands.{Stands, bytes-append, bytes-take, bytes-drop, bytes-written}
+use Rattle.lent.proofs.Written.{bytes-written}
+use Rattle.sender.proofs.Stands.{Stands}
 use Rattle.sender.proofs.Sending.{next-passed}
 
 -- ---- what is left of a queue of bytes is bytes

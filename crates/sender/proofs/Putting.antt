@@ -12,7 +12,7 @@ use Rattle.basics.proofs.Tests.{left-true, right-true}
 use Rattle.lent.specs.Outcome.{by}
 use Rattle.lent.specs.Written.{written}
 use Rattle.lent.proofs.Outcome.{gate, accepted}
-use Rattle.lent.proofs.Written.{written-append, take-written}
+use Rattle.lent.proofs.Written.{written-append, take-written, bytes-written}
 use Rattle.link.specs.Link.{IsPacket, Queue, withPacket}
 use Rattle.link.specs.Store.{marked, parse}
 use Rattle.link.proofs.RoundTrip.{parse-put}
@@ -20,7 +20,8 @@ use Rattle.sender.specs.declared.Sender.{Sender}
 use Rattle.sender.specs.declared.PutAnswer.{PutAnswer}
 use Rattle.sender.specs.declared.PutAnswer.the-variants.{Taken, Refused}
 use Rattle.sender.specs.Put.{isUsedWhole, putRefusal, putSender, putBytes, PutOutcome}
-use Rattle.sender.proofs.Stands.{Stands, bytes-take, bytes-written}
+use Rattle.basics.proofs.Lists.{bytes-take}
+use Rattle.sender.proofs.Stands.{Stands}
 
 pub record PutPassed (queue : List ℕ) (used : ℕ) (packet : List ℕ) : Type 0 where
   pub long : length queue ≡ 32768

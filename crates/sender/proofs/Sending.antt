@@ -30,7 +30,7 @@ use Rattle.sender.specs.declared.Sender.{Sender}
 use Rattle.sender.specs.declared.NextAnswer.{NextAnswer}
 use Rattle.sender.specs.declared.NextAnswer.the-variants.{Sent}
 use Rattle.sender.specs.declared.filling.Filled.{Filled}
-use Rattle.sender.proofs.Stands.{bytes-take}
+use Rattle.basics.proofs.Lists.{bytes-take}
 use Rattle.sender.proofs.Taking.{whole-parsed}
 
 pub record NextPassed (taps : ℕ) (fields : Fields) (used : ℕ) (queue out : List ℕ) : Type 0 where

@@ -8,7 +8,7 @@ use Rattle.lent.proofs.Outcome.{refused, kept, accepted}
 use Rattle.header.specs.declared.FrameKind.{FrameKind}
 use Rattle.frame.specs.Frame.{frameBytes}
 use Rattle.sender.specs.declared.NextAnswer.the-variants.{Refused}
-use Rattle.sender.proofs.Stands.{bytes-each}
+use Rattle.basics.proofs.Lists.{bytes-each}
 use Rattle.sender.proofs.Sending.{next-passed, used-length, kind-is, area-is, rest-is, start-within, sent-path}
 use borrow.Author.Needs.{needs}
 use Rattle.sender.proofs.next_frame.Statement.{statement}

@@ -2,7 +2,7 @@ use mathlib.Core.Path.{refl, ap}
 use native.Mathlib.Omega.{arith}
 use Prim.Native.Nat.{_-_}
 use lib.ListN.{length, length-take, length-drop}
-use Rattle.sender.proofs.Stands.{bytes-each}
+use Rattle.basics.proofs.Lists.{bytes-each}
 use Rattle.sender.proofs.Taking.{Filling, begins, full, reached, goes-on, cuts, ends}
 use Rattle.sender.proofs.filling.fill.Statement.{statement}
 use Rattle.sender.proofs.filling.fill.Tie as tie
