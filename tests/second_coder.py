@@ -1,4 +1,4 @@
-"""The second coder: the codes of the frame, in another language and from the papers alone.
+"""The second coder: the codes of the frame, in another language, by the definitions of the papers (README.md says who wrote it).
 
 Its results are compared with those of the proved libraries (crates/trials), so it shares nothing with them: no table,
 no shift register, no trick. Each function does what the definition says, by the longest way: long division on numbers

@@ -1,4 +1,4 @@
-"""The second coder's headers and whole frames, both ways, from the papers alone and over the codes of second_coder.py.
+"""The second coder's headers and whole frames, both ways, by the definitions of the papers and over the codes of second_coder.py.
 
 A header goes to its bytes and back by one table, that of 000 with the place of every bit. A refusal is found by asking
 everything: each condition that applies to the input gives its number, and the lowest of them counts.
