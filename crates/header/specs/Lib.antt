@@ -1,5 +1,4 @@
 pub mod Calls
 pub mod Header
 pub mod FastChannel
-pub mod Counts
 pub mod Numbers

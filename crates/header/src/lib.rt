@@ -5,7 +5,7 @@ pub mod reading;
 
 ghost use mathlib.Core.Path.{_≡_};
 ghost use Rattle.header.specs.Calls.{codeRefusal, CodeHeaderOutcome, readRefusal, readHeader, levelOf};
-ghost use Rattle.header.specs.Counts.{nextTxfn, missedFrames};
+ghost use Rattle.basics.specs.Counts.{nextTxfn, missedFrames};
 
 // TXFN: our count of our own frames, of every type. Only this count is stepped.
 pub struct Txfn(pub u16);

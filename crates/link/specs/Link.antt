@@ -13,9 +13,10 @@
 use mathlib.Core.Bool.{Bool, true, false, cond}
 use mathlib.Core.Option.{Option, none, some}
 use mathlib.Core.List.{List, [], _∷_, _++_}
-use Prim.Native.Nat.{ℕ, zero, suc, _+_, _-_, _%_, _≤_, _<_}
+use Prim.Native.Nat.{ℕ, zero, suc, _+_, _-_, _≤_, _<_}
 use lib.ListN.{length, take, drop}
 use lib.Dec.{leb}
+use Rattle.basics.specs.Counts.{nextTxfn, missedFrames}
 
 abbrev pub Packet : Type 0
 Packet = List ℕ
@@ -174,10 +175,10 @@ pub record Received : Type 0 where
   pub answer : Answer
   pub state : Receiver
 
--- the missed count of a frame: its number minus the one expected, modulo 65,536
+-- the missed count of a frame, 0 where none was expected
 abbrev pub missed : Option ℕ → ℕ → ℕ
 missed none number = 0
-missed (some expected) number = (number + 65536 - expected) % 65536
+missed (some expected) number = missedFrames number expected
 
 -- what is still held after frames were missed
 abbrev pub heldAfter : ℕ → List ℕ → List ℕ
@@ -188,7 +189,7 @@ abbrev pub receiveWith : Receiver → ℕ → ℕ → List ℕ → List Piece �
 receiveWith receiver number count held pieces = cond (fits held pieces)
     (record {
       answer = taken count (onPieces held pieces .out);
-      state = record { expected = some ((number + 1) % 65536); held = onPieces held pieces .held };
+      state = record { expected = some (nextTxfn number); held = onPieces held pieces .held };
     })
     (record { answer = refused 15; state = receiver })
 

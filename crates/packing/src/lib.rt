@@ -58,7 +58,7 @@ pub fn record_at(area: &[u8], at: usize) -> Found
     if total - 3 < at {
         return end_at(area, at);
     }
-    let mark = two_bytes(area[at], area[at + 1]);
+    let mark = marks::mark_at(area, at);
     let length = mark % 2048;
     if mark == 0 {
         return end_at(area, at);
@@ -81,7 +81,7 @@ pub fn write_record(area: &mut [u8], at: usize, first: bool, last: bool, bytes: 
     ensures { λ _. ⌜ now (area .exit) ≡ written (now (area .entry)) at (recordBytes (record { first = first; last = last; bytes = now (bytes .entry) })) ⌝ }
 {
     let mark = value_of(first, 32768) + value_of(last, 16384) + bytes.len();
-    let mark_bytes = [(mark / 256) as u8, (mark % 256) as u8];
+    let mark_bytes = marks::bytes_of(mark);
     lent::write_at(area, at, &mark_bytes);
     lent::write_at(area, at + 2, bytes);
 }
@@ -92,13 +92,6 @@ fn value_of(set: bool, value: usize) -> usize
     ensures small { λ r. ⌜ r ≤ value ⌝ }
 {
     if set { value } else { 0 }
-}
-
-// High byte first.
-fn two_bytes(high: u8, low: u8) -> usize
-    ensures { λ r. ⌜ r ≡ high * 256 + low ⌝ }
-{
-    (high as usize) * 256 + low as usize
 }
 
 fn is_mark(at: usize, room: usize, mark: usize) -> bool

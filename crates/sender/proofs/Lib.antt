@@ -1,4 +1,3 @@
-pub mod Walk
 pub mod Stands
 pub mod Putting
 pub mod Front

@@ -19,7 +19,8 @@ use Rattle.link.proofs.RoundTrip.{parse-put}
 use Rattle.sender.specs.declared.Sender.{Sender}
 use Rattle.sender.specs.declared.PutAnswer.{PutAnswer}
 use Rattle.sender.specs.declared.PutAnswer.the-variants.{Taken, Refused}
-use Rattle.sender.specs.Put.{isUsedWhole, putRefusal, putSender, putBytes, PutOutcome}
+use Rattle.marks.specs.Queue.{isUsedWhole}
+use Rattle.sender.specs.Put.{putRefusal, putSender, putBytes, PutOutcome}
 use Rattle.basics.proofs.Lists.{bytes-take}
 use Rattle.sender.proofs.Stands.{Stands}
 

@@ -23,7 +23,7 @@ use Rattle.header.specs.declared.Fields.{Fields}
 use Rattle.header.specs.declared.Txfn.{Txfn}
 use Rattle.header.specs.declared.FrameKind.{FrameKind}
 use Rattle.header.specs.declared.FrameKind.the-variants.{Idle, Data}
-use Rattle.sender.specs.Put.{isUsedWhole}
+use Rattle.marks.specs.Queue.{isUsedWhole}
 use Rattle.sender.specs.Next.{kindFor, areaFor, leftIn, queueIn, nextRefusal, NextOutcome}
 use Rattle.sender.specs.Filling.{remaining, FillOutcome}
 use Rattle.sender.specs.declared.Sender.{Sender}

@@ -14,14 +14,14 @@ use Rattle.link.specs.Packing.{busy}
 use Rattle.link.specs.Store.{layout, parse}
 use Rattle.packing.specs.Filling.{load, area}
 use Rattle.scrambler.specs.Scrambler.{tapsAllowed}
-use Rattle.header.specs.Counts.{nextTxfn}
+use Rattle.basics.specs.Counts.{nextTxfn}
 use Rattle.header.specs.Header.{fieldsFit}
 use Rattle.header.specs.declared.Fields.{Fields}
 use Rattle.header.specs.declared.FrameKind.{FrameKind}
 use Rattle.header.specs.declared.FrameKind.the-variants.{Idle, Data}
 use Rattle.header.specs.declared.Header.{Header}
 use Rattle.frame.specs.Frame.{frameBytes}
-use Rattle.sender.specs.Put.{isUsedWhole}
+use Rattle.marks.specs.Queue.{isUsedWhole}
 use Rattle.sender.specs.declared.Sender.{Sender}
 use Rattle.sender.specs.declared.NextAnswer.{NextAnswer}
 use Rattle.sender.specs.declared.NextAnswer.the-variants.{Sent, Refused}

@@ -1,13 +1,14 @@
 -- Putting a packet into the queue (01, "Queue"), for all inputs. A refusal's number is 0 where nothing is refused (01, "Refusal numbers").
 use mathlib.Core.Path.{_≡_}
-use mathlib.Core.Bool.{Bool, cond, _&&_}
+use mathlib.Core.Bool.{cond, _&&_}
 use mathlib.Core.List.{List}
 use Prim.Native.Nat.{ℕ, _+_}
 use lib.Dec.{eqb, leb}
-use lib.ListN.{length, take}
+use lib.ListN.{length}
 use Rattle.lent.specs.Outcome.{by}
 use Rattle.lent.specs.Written.{written}
-use Rattle.link.specs.Store.{marked, isWhole}
+use Rattle.link.specs.Store.{marked}
+use Rattle.marks.specs.Queue.{isUsedWhole}
 use Rattle.sender.specs.declared.Sender.{Sender}
 use Rattle.sender.specs.declared.PutAnswer.{PutAnswer}
 use Rattle.sender.specs.declared.PutAnswer.the-variants.{Taken, Refused}
@@ -15,10 +16,6 @@ use Rattle.sender.specs.declared.PutAnswer.the-variants.{Taken, Refused}
 -- nothing is used, and the first frame is frame 0
 abbrev pub freshSender : Sender
 freshSender = record { used = 0; next = record { 0 = 0 } }
-
--- the used bytes of a queue of 32,768 stand for waiting packets (otherwise refusal 3); the bytes behind them are not looked at
-unfoldable pub isUsedWhole : List ℕ → ℕ → Bool
-isUsedWhole queue used = leb used 32768 && isWhole (take used queue)
 
 -- the lowest number that applies, 0 for none
 unfoldable pub putRefusal : List ℕ → ℕ → List ℕ → ℕ

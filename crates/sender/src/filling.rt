@@ -7,7 +7,6 @@ ghost use Rattle.basics.specs.Lists.{zeros};
 ghost use Rattle.lent.specs.Written.{written};
 ghost use Rattle.link.specs.Store.{isWhole};
 ghost use Rattle.sender.specs.Filling.{FillOutcome, remaining};
-use crate::marks;
 
 // Where filling stopped in the queue, and how many bytes of a packet that it cut are unsent; 0 where it cut none.
 pub struct Filled {
@@ -58,7 +57,7 @@ pub fn settle(queue: &mut [u8], used: usize, start: usize, unsent: usize) -> usi
         return used - start;
     }
     let mark = 32768 + unsent;
-    let mark_bytes = [(mark / 256) as u8, (mark % 256) as u8];
+    let mark_bytes = marks::bytes_of(mark);
     lent::move_down(queue, 2, start, used);
     lent::write_at(queue, 0, &mark_bytes);
     2 + (used - start)

@@ -1,6 +1,5 @@
 // The sender: packets are put into a lent queue of 32,768 bytes, and go out frame by frame (01, "Queue" and "Next frame").
 mod filling;
-mod marks;
 
 use header::Fields;
 use header::FrameKind;
@@ -68,7 +67,7 @@ pub fn put(queue: &mut [u8], sender: Sender, packet: &[u8]) -> PutAnswer
         return PutAnswer::Refused(number);
     }
     let length = packet.len();
-    let mark = [(length / 256) as u8, (length % 256) as u8];
+    let mark = marks::bytes_of(length);
     lent::write_at(queue, used, &mark);
     lent::write_at(queue, used + 2, packet);
     let next = sender.next;

@@ -24,25 +24,16 @@ returns-2 c =
     let args = c .before .before .before .before .args in
     c .end-at2 .ensures ∙ sym (at-few (args .area .now) (args .at) (omega arith))
 
-shared-slice-read-two-bytes : tie.Need-shared-slice-read-two-bytes
-shared-slice-read-two-bytes c = search needs
-
-add-two-bytes : tie.Need-add-two-bytes
-add-two-bytes c = search needs
-
-shared-slice-read-two-bytes-2 : tie.Need-shared-slice-read-two-bytes-2
-shared-slice-read-two-bytes-2 c = search needs
-
-two-bytes-requires : tie.Need-two-bytes-requires
-two-bytes-requires c κs = search needs
+mark-at-requires : tie.Need-mark-at-requires
+mark-at-requires c κs = search needs
 
 end-at-requires-3 : tie.Need-end-at-requires-3
 end-at-requires-3 c κs = search needs
 
 returns-3 : tie.Need-returns-3
 returns-3 c =
-    let args = c .before .before .before .before .before .before .before .before .args in
-    let mark = c .before .before .two-bytes in
+    let args = c .before .before .before .before .before .before .args in
+    let mark = c .before .before .mark-at in
     c .end-at3 .ensures ∙ sym (at-zero (args .area .now) (args .at) (mark .result) (mark .ensures) (omega arith) (c .before .if3 .taken))
 
 sub-is-mark : tie.Need-sub-is-mark
@@ -56,15 +47,15 @@ add-start c = search needs
 
 returns-4 : tie.Need-returns-4
 returns-4 c =
-    let args = c .before .before .before .before .before .before .before .before .before .args in
-    let mark = c .before .before .before .two-bytes in
+    let args = c .before .before .before .before .before .before .before .args in
+    let mark = c .before .before .before .mark-at in
     sym (at-other (args .area .now) (args .at) (mark .result) (mark .ensures) (omega arith) (c .before .before .if3 .left)
     ∙ ap (λ test. cond test (At (placed (args .at) (mark .result))) Against) (sym (c .before .is-mark .ensures) ∙ c .if4 .taken))
 
 returns-5 : tie.Need-returns-5
 returns-5 c =
-    let args = c .before .before .before .before .before .before .before .before .before .args in
-    let mark = c .before .before .before .two-bytes in
+    let args = c .before .before .before .before .before .before .before .args in
+    let mark = c .before .before .before .mark-at in
     sym (at-other (args .area .now) (args .at) (mark .result) (mark .ensures) (omega arith) (c .before .before .if3 .left)
     ∙ ap (λ test. cond test (At (placed (args .at) (mark .result))) Against) (sym (c .before .is-mark .ensures) ∙ c .if4 .left))
 
@@ -76,10 +67,7 @@ record-at-spec =
     returns
     end-at-requires-2
     returns-2
-    shared-slice-read-two-bytes
-    add-two-bytes
-    shared-slice-read-two-bytes-2
-    two-bytes-requires
+    mark-at-requires
     end-at-requires-3
     returns-3
     sub-is-mark

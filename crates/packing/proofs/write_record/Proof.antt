@@ -1,7 +1,8 @@
 use mathlib.Core.Path.{ap, _∙_}
-use mathlib.Core.List.{[], _∷_}
-use Prim.Native.Nat.{_+_, _/_, _%_}
+use mathlib.Core.List.{[]}
+use Prim.Native.Nat.{_+_}
 use lib.ListN.{length}
+use Rattle.link.specs.Store.{marked}
 use Rattle.lent.specs.Written.{written}
 use Rattle.lent.proofs.Written.{written-append}
 use borrow.Author.Needs.{needs}
@@ -20,11 +21,8 @@ add-mark c = search needs
 add-mark-2 : tie.Need-add-mark-2
 add-mark-2 c = search needs
 
-cast-t12 : tie.Need-cast-t12
-cast-t12 c = search needs
-
-cast-t13 : tie.Need-cast-t13
-cast-t13 c = search needs
+bytes-of-requires : tie.Need-bytes-of-requires
+bytes-of-requires c κs = search needs
 
 slice-aggregate-write-at : tie.Need-slice-aggregate-write-at
 slice-aggregate-write-at c = search needs
@@ -43,15 +41,15 @@ same-length c = search needs
 
 returns : tie.Need-returns
 returns c =
-    let two-values = c .before .before .before .before .before .before .before .before .before in
+    let two-values = c .before .before .before .before .before .before .before .before .before .before in
     let start = two-values .before .before .before .before in
     let area = start .args .area .now in
     let at = start .args .at in
     let bytes = start .args .bytes .now in
     let mark = two-values .before .value-of .result + two-values .value-of2 .result + length bytes in
     c .before .before .write-at2 .ensures
-    ∙ ap (λ l. written l (at + 2) bytes) (c .before .before .before .before .before .before .write-at .ensures)
-    ∙ written-append area at (mark / 256 ∷ mark % 256 ∷ []) bytes (start .pre .0)
+    ∙ ap (λ l. written l (at + 2) bytes) (c .before .before .before .before .before .before .write-at .ensures ∙ ap (λ l. written area at l) (c .before .before .before .before .before .before .before .before .before .bytes-of .ensures))
+    ∙ written-append area at (marked mark []) bytes (start .pre .0)
     ∙ rw (two-values .before .value-of .ensures .0, two-values .value-of2 .ensures .0)
 
 pub write-record-spec : {M : Type 1} → statement M
@@ -62,8 +60,7 @@ write-record-spec =
     value-of-requires-2
     add-mark
     add-mark-2
-    cast-t12
-    cast-t13
+    bytes-of-requires
     slice-aggregate-write-at
     write-at-requires
     add-write-at

@@ -4,7 +4,7 @@ use native.Mathlib.Omega.{arith}
 use Prim.Native.Nat.{_+_}
 use lib.ListN.{length}
 use Rattle.sender.specs.Put.{putRefusal}
-use Rattle.sender.proofs.Walk.{used-within}
+use Rattle.marks.proofs.Walk.{used-within}
 use borrow.Author.Needs.{needs}
 use Rattle.sender.proofs.put_refusal.Statement.{statement}
 use Rattle.sender.proofs.put_refusal.Tie as tie

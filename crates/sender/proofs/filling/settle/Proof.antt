@@ -1,9 +1,10 @@
 use mathlib.Core.Path.{refl, sym, ap, _∙_}
 use native.Mathlib.Omega.{arith}
-use mathlib.Core.List.{List, [], _∷_}
-use Prim.Native.Nat.{ℕ, _+_, _/_, _%_}
+use mathlib.Core.List.{List, []}
+use Prim.Native.Nat.{ℕ, _+_}
 use lib.ListN.{length, take, drop}
 use Rattle.lent.specs.Written.{written}
+use Rattle.link.specs.Store.{marked}
 use Rattle.lent.proofs.Written.{written-before}
 use Rattle.sender.specs.Filling.{remaining}
 use Rattle.sender.proofs.Taking.{remaining-none, remaining-some, rest-length}
@@ -35,16 +36,13 @@ returns c =
 add-mark : tie.Need-add-mark
 add-mark c = search needs
 
-cast-t12 : tie.Need-cast-t12
-cast-t12 c = search needs
-
-cast-t14 : tie.Need-cast-t14
-cast-t14 c = search needs
+bytes-of-requires : tie.Need-bytes-of-requires
+bytes-of-requires c κs = search needs
 
 move-down-requires-2 : tie.Need-move-down-requires-2
 move-down-requires-2 c κs =
-    let at-pre = c .before .before .before .pre in
-    let at-if1 = c .before .if1 in
+    let at-pre = c .before .before .before .before .pre in
+    let at-if1 = c .before .before .if1 in
     ((at-pre .3) (at-if1 .left), (at-pre .0), (at-pre .1))
 
 slice-aggregate-write-at : tie.Need-slice-aggregate-write-at
@@ -53,8 +51,8 @@ slice-aggregate-write-at c = search needs
 write-at-requires : tie.Need-write-at-requires
 write-at-requires c κs =
     let at-move-down2 = c .before .before .before .before .move-down2 in
-    let at-pre = c .before .before .before .before .before .before .before .before .pre in
-    let at-if1 = c .before .before .before .before .before .before .if1 in
+    let at-pre = c .before .before .before .before .before .before .before .before .before .pre in
+    let at-if1 = c .before .before .before .before .before .before .before .if1 in
     omega (arith, (at-move-down2 .kept .0), (at-pre .3) (at-if1 .left))
 
 sub-result-2 : tie.Need-sub-result-2
@@ -68,18 +66,20 @@ same-length-2 c = search needs
 
 returns-2 : tie.Need-returns-2
 returns-2 c =
-    let at-args = c .before .before .before .before .before .before .before .before .before .before .before .args in
-    let at-if1 = c .before .before .before .before .before .before .before .before .before .if1 in
-    let at-pre = c .before .before .before .before .before .before .before .before .before .before .before .pre in
+    let at-args = c .before .before .before .before .before .before .before .before .before .before .before .before .args in
+    let at-if1 = c .before .before .before .before .before .before .before .before .before .before .if1 in
+    let at-pre = c .before .before .before .before .before .before .before .before .before .before .before .before .pre in
     let at-write-at = c .before .before .write-at in
     let at-move-down2 = c .before .before .before .before .before .before .before .move-down2 in
+    let at-bytes-of = c .before .before .before .before .before .before .before .before .before .bytes-of in
     let rest = (drop (at-args .start) (take (at-args .used) (at-args .queue .now))) in
     let mark = 32768 + (at-args .unsent) in
     let cut = remaining-some (at-args .unsent) rest (at-if1 .left) in
     let size = rest-length (at-args .queue .now) (at-args .used) (at-args .start) (at-pre .0) (at-pre .1) in (
       sym (ap length cut ∙ omega (arith, size)),
-      (at-write-at .ensures) ∙ ap (λ (l : List ℕ). written l 0 (mark / 256 ∷ mark % 256 ∷ [])) (at-move-down2 .ensures)
-          ∙ written-before (at-args .queue .now) (mark / 256 ∷ mark % 256 ∷ []) rest 2 refl (omega (arith, size, (at-pre .3) (at-if1 .left)))
+      (at-write-at .ensures) ∙ ap (λ (l : List ℕ). written l 0 (at-bytes-of .result)) (at-move-down2 .ensures)
+          ∙ ap (written (written (at-args .queue .now) 2 rest) 0) (at-bytes-of .ensures)
+          ∙ written-before (at-args .queue .now) (marked mark []) rest 2 refl (omega (arith, size, (at-pre .3) (at-if1 .left)))
           ∙ ap (written (at-args .queue .now) 0) (sym cut),
     )
 
@@ -92,8 +92,7 @@ settle-spec =
     same-length
     returns
     add-mark
-    cast-t12
-    cast-t14
+    bytes-of-requires
     move-down-requires-2
     slice-aggregate-write-at
     write-at-requires

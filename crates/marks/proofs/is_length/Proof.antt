@@ -1,9 +1,9 @@
 use borrow.Author.Tests.{le-leb, lt-leb}
 use lib.ListN.{length}
-use Rattle.sender.proofs.Walk.{within}
+use Rattle.marks.proofs.Walk.{within}
 use borrow.Author.Needs.{needs}
-use Rattle.sender.proofs.marks.is_length.Statement.{statement}
-use Rattle.sender.proofs.marks.is_length.Tie as tie
+use Rattle.marks.proofs.is_length.Statement.{statement}
+use Rattle.marks.proofs.is_length.Tie as tie
 
 returns : tie.Need-returns
 returns c =

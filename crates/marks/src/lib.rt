@@ -1,11 +1,20 @@
-// The queue's bytes: a mark of two bytes before each packet. Whether they are whole, judged mark by mark.
+// Marks: the two bytes, high byte first, before a packet in the queue and in the list and before a record in an area. And whether the queue's bytes are whole, judged mark by mark.
 ghost use mathlib.Core.Path.{_≡_};
 ghost use mathlib.Core.Bool.{_&&_};
-ghost use Prim.Native.Nat.{_+_, _*_, _≤_};
+ghost use mathlib.Core.List.{[]};
+ghost use Prim.Native.Nat.{_+_, _*_, _≤_, _<_};
 ghost use lib.Dec.{leb};
 ghost use lib.ListN.{length, getD, drop};
-ghost use Rattle.link.specs.Store.{packetsIn, isSome, isWhole};
-ghost use Rattle.sender.specs.Put.{isUsedWhole};
+ghost use Rattle.link.specs.Store.{marked, packetsIn, isSome, isWhole};
+ghost use Rattle.marks.specs.Queue.{isUsedWhole};
+
+// The two bytes of a mark, high byte first.
+pub fn bytes_of(mark: usize) -> [u8; 2]
+    requires { ⌜ mark < 65536 ⌝ }
+    ensures { λ r. ⌜ r ≡ marked mark [] ⌝ }
+{
+    [(mark / 256) as u8, (mark % 256) as u8]
+}
 
 // The mark at an index, high byte first.
 pub fn mark_at(bytes: &[u8], at: usize) -> usize
@@ -22,7 +31,7 @@ fn number_of(high: u8, low: u8) -> usize
 }
 
 // Whether a length is 1 to `most`, and as many bytes stand behind the mark at an index.
-fn is_length(bytes: &[u8], at: usize, n: usize, most: usize) -> bool
+pub fn is_length(bytes: &[u8], at: usize, n: usize, most: usize) -> bool
     requires { ⌜ at + 2 ≤ length (now bytes) ⌝ }
     ensures { λ r. ⌜ r ≡ (leb 1 n && leb n most && leb (at + 2 + n) (length (now (bytes .entry)))) ⌝ }
 {

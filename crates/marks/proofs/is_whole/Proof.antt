@@ -1,10 +1,10 @@
 use borrow.Author.Tests.{not-true, not-false}
 use mathlib.Core.Path.{sym, _∙_}
 use Rattle.link.proofs.Store.{wholeFrom}
-use Rattle.sender.proofs.Walk.{whole-short, not-begun, begun-bad, begun-good}
+use Rattle.marks.proofs.Walk.{whole-short, not-begun, begun-bad, begun-good}
 use borrow.Author.Needs.{needs}
-use Rattle.sender.proofs.marks.is_whole.Statement.{statement}
-use Rattle.sender.proofs.marks.is_whole.Tie as tie
+use Rattle.marks.proofs.is_whole.Statement.{statement}
+use Rattle.marks.proofs.is_whole.Tie as tie
 
 returns : tie.Need-returns
 unfolding wholeFrom

@@ -3,10 +3,10 @@ use mathlib.Core.Path.{sym}
 use native.Mathlib.Omega.{arith}
 use lib.Seq.{length-take-le}
 use Rattle.lent.proofs.Outcome.{with-test}
-use Rattle.sender.specs.Put.{isUsedWhole}
+use Rattle.marks.specs.Queue.{isUsedWhole}
 use borrow.Author.Needs.{needs}
-use Rattle.sender.proofs.marks.is_used_whole.Statement.{statement}
-use Rattle.sender.proofs.marks.is_used_whole.Tie as tie
+use Rattle.marks.proofs.is_used_whole.Statement.{statement}
+use Rattle.marks.proofs.is_used_whole.Tie as tie
 
 returns : tie.Need-returns
 unfolding isUsedWhole

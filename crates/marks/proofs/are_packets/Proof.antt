@@ -4,9 +4,9 @@ use native.Mathlib.Omega.{arith}
 use lib.ListN.{length}
 use Prim.Native.Nat.{_-_}
 use Rattle.link.proofs.Store.{wholeFrom, whole-end}
-use Rattle.sender.proofs.Walk.{runs-out, bad, sized, goes-on}
-use Rattle.sender.proofs.marks.are_packets.Statement.{statement}
-use Rattle.sender.proofs.marks.are_packets.Tie as tie
+use Rattle.marks.proofs.Walk.{runs-out, bad, sized, goes-on}
+use Rattle.marks.proofs.are_packets.Statement.{statement}
+use Rattle.marks.proofs.are_packets.Tie as tie
 
 abbrev Inv-loop : tie.InvT-loop
 Inv-loop bytes start at₀ at = wholeFrom bytes at ≡ wholeFrom bytes start

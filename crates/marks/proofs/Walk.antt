@@ -12,7 +12,7 @@ use borrow.Author.Tests.{ne-eqb, leb-true, lt-leb, le-leb}
 use Rattle.basics.proofs.Tests.{lt-or-ge, left-true, right-true}
 use Rattle.link.proofs.Store.{markFrom, isLengthFrom, wholeFrom, whole-step, whole-front, whole-begun, whole-end}
 use Rattle.link.specs.Store.{isWhole}
-use Rattle.sender.specs.Put.{isUsedWhole}
+use Rattle.marks.specs.Queue.{isUsedWhole}
 
 and-false : (a : Bool) → (a && false) ≡ false
 and-false true = refl
