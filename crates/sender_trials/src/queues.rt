@@ -22,10 +22,7 @@ pub fn begun(body: &[u8], queue: &mut [u8]) -> Outcome {
     if body.len() < 4 {
         return Outcome::Malformed;
     }
-    seeded::fill(
-        numbers::of_four(body[0], body[1], body[2], body[3]),
-        queue,
-    );
+    seeded::fill(numbers::of_four(body[0], body[1], body[2], body[3]), queue);
     outcome(queue, &body[4..])
 }
 
@@ -38,7 +35,20 @@ pub fn changed(body: &[u8], queue: &mut [u8]) -> Outcome {
     outcome(queue, &body[0..8])
 }
 
-// Every byte of the queue, and of those behind it.
+// A seed and bytes: every byte of the queue, and of those behind it. They are the bytes given, and then those from the seed.
 pub fn in_full(body: &[u8], queue: &[u8]) -> Outcome {
-    outcome::of(queue, body)
+    if body.len() < 4 {
+        return Outcome::Malformed;
+    }
+    let front = &body[4..];
+    let mut expected = none();
+    if 32780 < front.len() {
+        return Outcome::Malformed;
+    }
+    seeded::fill(
+        numbers::of_four(body[0], body[1], body[2], body[3]),
+        &mut expected,
+    );
+    lent::write_at(&mut expected, 0, front);
+    outcome::of(queue, &expected)
 }
