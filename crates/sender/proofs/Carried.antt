@@ -23,7 +23,7 @@ use Rattle.link.proofs.Sender.{cut-queue}
 use Rattle.packing.specs.Filling.{load}
 use Rattle.packing.proofs.Bench.{bench, area-length}
 use Rattle.header.specs.Header.{headerFits, fieldsFit}
-use Rattle.header.specs.Numbers.{fits}
+use Rattle.basics.specs.Numbers.{fitsBits}
 use Rattle.header.specs.declared.Fields.{Fields}
 use Rattle.header.specs.declared.FrameKind.{FrameKind}
 use Rattle.header.specs.declared.FrameKind.the-variants.{Idle, Data}
@@ -170,7 +170,7 @@ next-stands taps fields sender bytes out sender′ kind bytes′ out′ i queue 
     let bytes-queue : Bytes (layout queue) = rw (layout-back (take used bytes) queue (bytes-take used bytes (s .are-bytes)) (s .parsed)) (bytes-take used bytes (s .are-bytes)) in (
       record {
         header = header;
-        fits-header = both-true (fits 16 (sender .next .0)) (fieldsFit fields) (lt-ltb (sender .next .0) 65536 (omega (arith, s .number))) (passed .fits);
+        fits-header = both-true (fitsBits 16 (sender .next .0)) (fieldsFit fields) (lt-ltb (sender .next .0) 65536 (omega (arith, s .number))) (passed .fits);
         counted = s .number;
         kind-is = sym (content .2);
         long = ap length (content .0) ∙ content .1;

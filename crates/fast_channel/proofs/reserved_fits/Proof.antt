@@ -1,6 +1,6 @@
 use borrow.Author.Tests.{le-leb, lt-leb}
-use Rattle.header.proofs.messages.reserved_fits.Statement.{statement}
-use Rattle.header.proofs.messages.reserved_fits.Tie as tie
+use Rattle.fast_channel.proofs.reserved_fits.Statement.{statement}
+use Rattle.fast_channel.proofs.reserved_fits.Tie as tie
 
 returns : tie.Need-returns
 returns c =

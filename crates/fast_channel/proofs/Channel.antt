@@ -7,12 +7,12 @@ use native.Mathlib.Omega.{arith}
 use borrow.Author.Tests.{ltb-true, leb-true, eqb-true, eqb-false, lt-ltb, le-leb, ne-eqb, lt-leb}
 use lib.Dec.{eqb, ltb, leb}
 use Rattle.basics.proofs.Xor.{bit-cases}
-use Rattle.header.specs.Numbers.{fits}
-use Rattle.header.specs.FastChannel.{lockNumber, withLock, lockOf, opcodeOf, payloadOf, messageFits, messageOf, payloadRule}
-use Rattle.header.specs.declared.Lock.{Lock}
-use Rattle.header.specs.declared.Lock.the-variants.{NotLocked, Locked}
-use Rattle.header.specs.declared.FastChannel.{FastChannel}
-use Rattle.header.specs.declared.FastChannel.the-variants.{CrcErrors, ReceivedPower, PowerStatistics, SyncLosses, PowerRange, Version, CorrectedFrames, Reserved, Absent}
+use Rattle.basics.specs.Numbers.{fitsBits}
+use Rattle.fast_channel.specs.FastChannel.{lockNumber, withLock, lockOf, opcodeOf, payloadOf, messageFits, messageOf, payloadRule}
+use Rattle.fast_channel.specs.declared.Lock.{Lock}
+use Rattle.fast_channel.specs.declared.Lock.the-variants.{NotLocked, Locked}
+use Rattle.fast_channel.specs.declared.FastChannel.{FastChannel}
+use Rattle.fast_channel.specs.declared.FastChannel.the-variants.{CrcErrors, ReceivedPower, PowerStatistics, SyncLosses, PowerRange, Version, CorrectedFrames, Reserved, Absent}
 
 -- ---- from the message
 
@@ -26,7 +26,7 @@ lock-le Locked = omega arith
 
 -- a number of 14 bits over two bits of lock
 module _ (n : ℕ) (lock : Lock) where
-  over : fits 14 n ≡ true → withLock n lock / 4 ≡ n
+  over : fitsBits 14 n ≡ true → withLock n lock / 4 ≡ n
   over e = omega (arith, lock-le lock, ltb-true n 16384 e)
 
   under : withLock n lock % 4 ≡ lockNumber lock
@@ -36,9 +36,9 @@ module _ (n : ℕ) (lock : Lock) where
   locks = lt-ltb (withLock n lock % 4) 2 (omega (arith, lock-le lock))
 
 -- two bytes in one number
-module _ (a b : ℕ) (e : (fits 8 a && fits 8 b) ≡ true) where
+module _ (a b : ℕ) (e : (fitsBits 8 a && fitsBits 8 b) ≡ true) where
   second-lt : b < 256
-  second-lt = ltb-true b 256 (and-eq-true-iff (fits 8 a) (fits 8 b) .0 e .1)
+  second-lt = ltb-true b 256 (and-eq-true-iff (fitsBits 8 a) (fitsBits 8 b) .0 e .1)
 
   first : (256 * a + b) / 256 ≡ a
   first = omega (arith, second-lt)
@@ -47,14 +47,14 @@ module _ (a b : ℕ) (e : (fits 8 a && fits 8 b) ≡ true) where
   second = omega (arith, second-lt)
 
   pair-lt : 256 * a + b < 65536
-  pair-lt = omega (arith, second-lt, ltb-true a 256 (and-eq-true-iff (fits 8 a) (fits 8 b) .0 e .0))
+  pair-lt = omega (arith, second-lt, ltb-true a 256 (and-eq-true-iff (fitsBits 8 a) (fitsBits 8 b) .0 e .0))
 
-version-back : (a b c : ℕ) → (fits 5 a && fits 5 b && fits 6 c) ≡ true
+version-back : (a b c : ℕ) → (fitsBits 5 a && fitsBits 5 b && fitsBits 6 c) ≡ true
     → let p = 2048 * (a % 32) + 64 * (b % 32) + c % 64 in Version (p / 2048) (p / 64 % 32) (p % 64) ≡ Version a b c
 version-back a b c e =
-    let left = and-eq-true-iff (fits 5 a && fits 5 b) (fits 6 c) .0 e in
-    let a-lt = ltb-true a 32 (and-eq-true-iff (fits 5 a) (fits 5 b) .0 (left .0) .0) in
-    let b-lt = ltb-true b 32 (and-eq-true-iff (fits 5 a) (fits 5 b) .0 (left .0) .1) in
+    let left = and-eq-true-iff (fitsBits 5 a && fitsBits 5 b) (fitsBits 6 c) .0 e in
+    let a-lt = ltb-true a 32 (and-eq-true-iff (fitsBits 5 a) (fitsBits 5 b) .0 (left .0) .0) in
+    let b-lt = ltb-true b 32 (and-eq-true-iff (fitsBits 5 a) (fitsBits 5 b) .0 (left .0) .1) in
     let c-lt = ltb-true c 64 (left .1) in
     let p = 2048 * (a % 32) + 64 * (b % 32) + c % 64 in
     let x : p / 2048 ≡ a = omega arith in
@@ -157,10 +157,10 @@ module _ (o p : ℕ) (o-lt : o < 16) (p-lt : p < 65536) (rule : payloadRule o p 
   is : (k : ℕ) → eqb o k ≡ true → k ≡ o
   is k e = sym (eqb-true o k e)
 
-  pair-fits : (fits 8 (p / 256) && fits 8 (p % 256)) ≡ true
+  pair-fits : (fitsBits 8 (p / 256) && fitsBits 8 (p % 256)) ≡ true
   pair-fits = rw (lt-ltb (p / 256) 256 (omega arith), lt-ltb (p % 256) 256 (omega arith))
 
-  version-fits : (fits 5 (p / 2048) && fits 5 (p / 64 % 32) && fits 6 (p % 64)) ≡ true
+  version-fits : (fitsBits 5 (p / 2048) && fitsBits 5 (p / 64 % 32) && fitsBits 6 (p % 64)) ≡ true
   version-fits = rw (lt-ltb (p / 2048) 32 (omega arith), lt-ltb (p / 64 % 32) 32 (omega arith), lt-ltb (p % 64) 64 (omega arith))
 
   reserved-carries : 7 ≤ o → eqb o 15 ≡ false → Carries o p (Reserved o)

@@ -6,8 +6,8 @@ use lib.Dec.{ltb}
 use lib.ListN.{getD}
 
 -- the number fits in so many bits
-abbrev pub fits : ℕ → ℕ → Bool
-fits bits x = ltb x (2 ^ bits)
+abbrev pub fitsBits : ℕ → ℕ → Bool
+fitsBits bits x = ltb x (2 ^ bits)
 
 -- the n low bytes of a number, low byte first
 abbrev pub lowFirst : ℕ → ℕ → List ℕ

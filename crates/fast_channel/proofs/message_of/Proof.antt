@@ -1,8 +1,8 @@
 use borrow.Author.Tests.{ne-eqb}
-use Rattle.header.specs.FastChannel.{messageOf}
+use Rattle.fast_channel.specs.FastChannel.{messageOf}
 use borrow.Author.Needs.{needs}
-use Rattle.header.proofs.messages.message_of.Statement.{statement}
-use Rattle.header.proofs.messages.message_of.Tie as tie
+use Rattle.fast_channel.proofs.message_of.Statement.{statement}
+use Rattle.fast_channel.proofs.message_of.Tie as tie
 
 lock-of-requires : tie.Need-lock-of-requires
 lock-of-requires c κs = search needs

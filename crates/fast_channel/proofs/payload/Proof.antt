@@ -1,6 +1,6 @@
 use borrow.Author.Needs.{needs}
-use Rattle.header.proofs.messages.payload.Statement.{statement}
-use Rattle.header.proofs.messages.payload.Tie as tie
+use Rattle.fast_channel.proofs.payload.Statement.{statement}
+use Rattle.fast_channel.proofs.payload.Tie as tie
 
 enum-known-message : tie.Need-enum-known-message
 enum-known-message c = search needs

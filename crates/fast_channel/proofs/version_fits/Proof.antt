@@ -1,6 +1,6 @@
 use borrow.Author.Tests.{lt-ltb, le-ltb}
-use Rattle.header.proofs.messages.version_fits.Statement.{statement}
-use Rattle.header.proofs.messages.version_fits.Tie as tie
+use Rattle.fast_channel.proofs.version_fits.Statement.{statement}
+use Rattle.fast_channel.proofs.version_fits.Tie as tie
 
 returns : tie.Need-returns
 returns c =

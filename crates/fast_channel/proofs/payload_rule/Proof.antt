@@ -1,7 +1,7 @@
 use borrow.Author.Tests.{le-leb, lt-leb, ne-eqb}
-use Rattle.header.specs.FastChannel.{payloadRule}
-use Rattle.header.proofs.messages.payload_rule.Statement.{statement}
-use Rattle.header.proofs.messages.payload_rule.Tie as tie
+use Rattle.fast_channel.specs.FastChannel.{payloadRule}
+use Rattle.fast_channel.proofs.payload_rule.Statement.{statement}
+use Rattle.fast_channel.proofs.payload_rule.Tie as tie
 
 returns : tie.Need-returns
 unfolding payloadRule

@@ -1,12 +1,38 @@
-// The messages of the fast channel: to an opcode and a payload of 16 bits, and back.
+// The messages of the fast channel (source 000, Tables 2-12 and 2-13): to an opcode and a payload of 16 bits, and back.
 ghost use mathlib.Core.Path.{_≡_};
 ghost use mathlib.Core.Bool.{_&&_};
 ghost use Prim.Native.Nat.{_+_, _*_, _%_, _≤_};
 ghost use lib.Dec.{leb};
-ghost use Rattle.header.specs.Numbers.{fits};
-ghost use Rattle.header.specs.FastChannel.{lockNumber, withLock, lockOf, opcodeOf, payloadOf, messageFits, messageOf, payloadRule};
-use crate::FastChannel;
-use crate::Lock;
+ghost use Rattle.basics.specs.Numbers.{fitsBits};
+ghost use Rattle.fast_channel.specs.FastChannel.{lockNumber, withLock, lockOf, opcodeOf, payloadOf, messageFits, messageOf, payloadRule};
+
+// Frame synchronization over the time that a message reports on: lost at least once, or held.
+pub enum Lock {
+    NotLocked,
+    Locked,
+}
+
+// One message of the fast channel, out of nine kinds, with its opcode and the name that Table 2-12 gives it.
+pub enum FastChannel {
+    // 0, LAPC_CRC_ERROR_REPORT: frames with a CRC error in the last second.
+    CrcErrors(u16),
+    // 1, LAPC_RSSI_FAST: the power received in the last 10 ms, 14 bits.
+    ReceivedPower { power: u16, lock: Lock },
+    // 2, LAPC_RSSI_SLOW: the power received in the last second, as codes of `level`.
+    PowerStatistics { mean: u8, deviation: u8 },
+    // 3, LAPC_SYNC_REPORT: how often synchronization was lost in the last second, 14 bits.
+    SyncLosses { losses: u16, lock: Lock },
+    // 4, OISL_SENSITIVITY: the least power that the terminal requires and the greatest that it permits, as codes of `level`.
+    PowerRange { least: u8, greatest: u8 },
+    // 5, OISL_CAPABILITIES: the version of the standard, 5, 5 and 6 bits.
+    Version { major: u8, minor: u8, patch: u8 },
+    // 6, LAPC_FEC_CORRECTED_ERROR_REPORT: frames that needed a correction in the last second.
+    CorrectedFrames(u16),
+    // 7 to 14, RESERVED: the opcode.
+    Reserved(u8),
+    // 15: no message.
+    Absent,
+}
 
 fn lock_number(lock: Lock) -> u16
     ensures { λ r. ⌜ r ≡ lockNumber lock ⌝ }
@@ -93,22 +119,8 @@ pub fn payload(message: FastChannel) -> u16
     }
 }
 
-// A number of 16 bits fits: this says in the words of the contract what the type says, so that no theorem has to suppose it.
-fn word_fits(number: u16) -> bool
-    ensures { λ r. ⌜ r ≡ fits 16 number ⌝ }
-{
-    true
-}
-
-// So do two bytes.
-fn bytes_fit(first: u8, second: u8) -> bool
-    ensures { λ r. ⌜ r ≡ (fits 8 first && fits 8 second) ⌝ }
-{
-    true
-}
-
 fn version_fits(major: u8, minor: u8, patch: u8) -> bool
-    ensures { λ r. ⌜ r ≡ (fits 5 major && fits 5 minor && fits 6 patch) ⌝ }
+    ensures { λ r. ⌜ r ≡ (fitsBits 5 major && fitsBits 5 minor && fitsBits 6 patch) ⌝ }
 {
     if 32 <= major {
         return false;
@@ -133,17 +145,23 @@ pub fn message_fits(message: FastChannel) -> bool
     ensures { λ r. ⌜ r ≡ messageFits message ⌝ }
 {
     match message {
-        FastChannel::CrcErrors(errors) => word_fits(errors),
+        FastChannel::CrcErrors(_) => true,
         FastChannel::ReceivedPower { power, lock: _ } => power < 16384,
-        FastChannel::PowerStatistics { mean, deviation } => bytes_fit(mean, deviation),
+        FastChannel::PowerStatistics {
+            mean: _,
+            deviation: _,
+        } => true,
         FastChannel::SyncLosses { losses, lock: _ } => losses < 16384,
-        FastChannel::PowerRange { least, greatest } => bytes_fit(least, greatest),
+        FastChannel::PowerRange {
+            least: _,
+            greatest: _,
+        } => true,
         FastChannel::Version {
             major,
             minor,
             patch,
         } => version_fits(major, minor, patch),
-        FastChannel::CorrectedFrames(frames) => word_fits(frames),
+        FastChannel::CorrectedFrames(_) => true,
         FastChannel::Reserved(number) => reserved_fits(number),
         FastChannel::Absent => true,
     }

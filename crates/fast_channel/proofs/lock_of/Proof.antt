@@ -1,6 +1,6 @@
 use borrow.Author.Tests.{eq-eqb, ne-eqb}
-use Rattle.header.proofs.messages.lock_of.Statement.{statement}
-use Rattle.header.proofs.messages.lock_of.Tie as tie
+use Rattle.fast_channel.proofs.lock_of.Statement.{statement}
+use Rattle.fast_channel.proofs.lock_of.Tie as tie
 
 returns : tie.Need-returns
 returns c =

@@ -3,11 +3,11 @@
 use mathlib.Core.Bool.{Bool, true, cond, _&&_, _||_}
 use Prim.Native.Nat.{ℕ, _+_, _*_, _/_, _%_}
 use lib.Dec.{eqb, ltb, leb}
-use Rattle.header.specs.Numbers.{fits}
-use Rattle.header.specs.declared.Lock.{Lock}
-use Rattle.header.specs.declared.Lock.the-variants.{NotLocked, Locked}
-use Rattle.header.specs.declared.FastChannel.{FastChannel}
-use Rattle.header.specs.declared.FastChannel.the-variants.{CrcErrors, ReceivedPower, PowerStatistics, SyncLosses, PowerRange, Version, CorrectedFrames, Reserved, Absent}
+use Rattle.basics.specs.Numbers.{fitsBits}
+use Rattle.fast_channel.specs.declared.Lock.{Lock}
+use Rattle.fast_channel.specs.declared.Lock.the-variants.{NotLocked, Locked}
+use Rattle.fast_channel.specs.declared.FastChannel.{FastChannel}
+use Rattle.fast_channel.specs.declared.FastChannel.the-variants.{CrcErrors, ReceivedPower, PowerStatistics, SyncLosses, PowerRange, Version, CorrectedFrames, Reserved, Absent}
 
 abbrev pub lockNumber : Lock → ℕ
 lockNumber NotLocked = 0
@@ -44,13 +44,13 @@ payloadOf Absent = 0xFFFF
 
 -- no number of the message is too large for its bits, and a reserved opcode is one of 7 to 14
 abbrev pub messageFits : FastChannel → Bool
-messageFits (CrcErrors errors) = fits 16 errors
-messageFits (ReceivedPower power lock) = fits 14 power
-messageFits (PowerStatistics mean deviation) = fits 8 mean && fits 8 deviation
-messageFits (SyncLosses losses lock) = fits 14 losses
-messageFits (PowerRange least greatest) = fits 8 least && fits 8 greatest
-messageFits (Version major minor patch) = fits 5 major && fits 5 minor && fits 6 patch
-messageFits (CorrectedFrames frames) = fits 16 frames
+messageFits (CrcErrors errors) = fitsBits 16 errors
+messageFits (ReceivedPower power lock) = fitsBits 14 power
+messageFits (PowerStatistics mean deviation) = fitsBits 8 mean && fitsBits 8 deviation
+messageFits (SyncLosses losses lock) = fitsBits 14 losses
+messageFits (PowerRange least greatest) = fitsBits 8 least && fitsBits 8 greatest
+messageFits (Version major minor patch) = fitsBits 5 major && fitsBits 5 minor && fitsBits 6 patch
+messageFits (CorrectedFrames frames) = fitsBits 16 frames
 messageFits (Reserved opcode) = leb 7 opcode && leb opcode 14
 messageFits Absent = true
 
