@@ -28,10 +28,12 @@ use Rattle.header.specs.declared.Fields.{Fields}
 use Rattle.header.specs.declared.FrameKind.{FrameKind}
 use Rattle.header.specs.declared.FrameKind.the-variants.{Idle, Data}
 use Rattle.header.specs.declared.Header.{Header}
+use Rattle.marks.specs.Queue.{queueIn}
+use Rattle.marks.proofs.Parsed.{queue-is}
 use Rattle.frame.specs.Frame.{preamble, codedHeader, areaPayload, frameBytes}
 use Rattle.frame.proofs.Laws.{body-length}
 use Rattle.scrambler.specs.Scrambler.{scrambled}
-use Rattle.sender.specs.Next.{areaFor, headerFor, leftIn, senderAfter, kindFor, orEmpty, queueIn, nextRefusal, NextOutcome}
+use Rattle.sender.specs.Next.{areaFor, headerFor, leftIn, senderAfter, kindFor, nextRefusal, NextOutcome}
 use Rattle.sender.specs.declared.Sender.{Sender}
 use Rattle.sender.specs.declared.NextAnswer.the-variants.{Sent, Refused}
 use Rattle.lent.proofs.Written.{bytes-written}
@@ -123,10 +125,6 @@ sent-zero n after sender kind kind′ = go (eqb n 0) refl
     go : (test : Bool) → eqb n 0 ≡ test → Sent after kind ≡ cond test (Sent sender kind′) (Refused n) → (n ≡ 0) × (after ≡ sender)
     go true t e = (eqb-true n 0 t, cc)
     go false t e = let z : _≡_ {A = ℕ} 0 1 = cc in absurd (omega arith)
-
-queue-is : (bytes : List ℕ) (queue : Queue) → parse bytes ≡ some queue → queueIn bytes ≡ queue
-unfolding queueIn
-queue-is bytes queue e = ap orEmpty e
 
 opened-area : (q : Queue) → IsQueue q → (frameFor bench q .area ≡ areaFor q) × (length (areaFor q) ≡ 1908) × (cond (frameFor bench q .isData) Data Idle ≡ kindFor q)
 unfolding bench

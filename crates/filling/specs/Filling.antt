@@ -1,4 +1,5 @@
--- What the private calls `fill` and `settle` do on the way to a frame.
+-- What the code does on the way to a frame: `fill` takes records off the queue, `settle` moves what remains to its front. The contract of `next_frame` does not
+-- cite it, so whoever reads that contract need not believe anything here.
 use mathlib.Core.Path.{_≡_}
 use mathlib.Core.Bool.{cond}
 use mathlib.Core.List.{List}
@@ -7,8 +8,8 @@ use lib.Dec.{eqb}
 use lib.ListN.{length, drop}
 use Rattle.link.specs.Store.{marked, layout}
 use Rattle.packing.specs.Filling.{fill, area}
-use Rattle.sender.specs.Next.{queueIn}
-use Rattle.sender.specs.declared.filling.Filled.{Filled}
+use Rattle.marks.specs.Queue.{queueIn}
+use Rattle.filling.specs.declared.Filled.{Filled}
 
 -- what remains: bytes from a mark on; or those of a packet that was cut, with this many unsent, and then its new mark stands before them
 unfoldable pub remaining : ℕ → List ℕ → List ℕ

@@ -6,11 +6,11 @@ use lib.ListN.{length, take, drop}
 use Rattle.lent.specs.Written.{written}
 use Rattle.link.specs.Store.{marked}
 use Rattle.lent.proofs.Written.{written-before}
-use Rattle.sender.specs.Filling.{remaining}
-use Rattle.sender.proofs.Taking.{remaining-none, remaining-some, rest-length}
+use Rattle.filling.specs.Filling.{remaining}
+use Rattle.filling.proofs.Taking.{remaining-none, remaining-some, rest-length}
 use borrow.Author.Needs.{needs}
-use Rattle.sender.proofs.filling.settle.Statement.{statement}
-use Rattle.sender.proofs.filling.settle.Tie as tie
+use Rattle.filling.proofs.settle.Statement.{statement}
+use Rattle.filling.proofs.settle.Tie as tie
 
 move-down-requires : tie.Need-move-down-requires
 move-down-requires c κs = search needs

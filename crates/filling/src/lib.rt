@@ -6,7 +6,7 @@ ghost use lib.ListN.{length, take, drop};
 ghost use Rattle.basics.specs.Lists.{zeros};
 ghost use Rattle.lent.specs.Written.{written};
 ghost use Rattle.link.specs.Store.{isWhole};
-ghost use Rattle.sender.specs.Filling.{FillOutcome, remaining};
+ghost use Rattle.filling.specs.Filling.{FillOutcome, remaining};
 
 // Where filling stopped in the queue, and how many bytes of a packet that it cut are unsent; 0 where it cut none.
 pub struct Filled {

@@ -1,7 +1,7 @@
 -- Filling the area off the queue, as the loop of `fill` goes: what stands in the area so far and what is filled in from here on give the whole.
 use mathlib.Core.Path.{_≡_, refl, sym, ap, ap₂, _∙_}
 use mathlib.Core.Bool.{Bool, true, false}
-use mathlib.Core.Option.{Option, none, some}
+use mathlib.Core.Option.{none}
 use mathlib.Core.List.{List, _++_, append-assoc, append-nil}
 use Prim.Native.Nat.{ℕ, _+_, _-_, _%_, _≤_, _<_}
 use native.Mathlib.Omega.{arith}
@@ -14,23 +14,15 @@ use Rattle.basics.proofs.Lists.{zeros-length}
 use Rattle.lent.specs.Written.{written}
 use Rattle.lent.proofs.Written.{written-length, take-written, drop-written}
 use Rattle.link.specs.Link.{Piece, Queue, IsQueue, Cut, cutNothing, cutLast, pieceThen}
-use Rattle.link.specs.Store.{marked, layoutWaiting, layout, parse, isSome, isWhole}
+use Rattle.link.specs.Store.{marked, layoutWaiting, layout, isWhole}
 use Rattle.link.proofs.Store.{markFrom}
 use Rattle.link.proofs.RoundTrip.{parse-queue, layout-back}
 use Rattle.packing.specs.Rules.{recordBytes, recordsBytes}
 use Rattle.packing.specs.Filling.{fill, area}
-use Rattle.sender.specs.Next.{orEmpty, queueIn}
-use Rattle.sender.specs.Filling.{remaining, FillOutcome}
-use Rattle.sender.proofs.Front.{Front, front, nothing, inside, length-is, first-is, part, behind}
-
--- the bytes stand for a queue, and are its layout
-pub whole-parsed : (bytes : List ℕ) → isWhole bytes ≡ true → parse bytes ≡ some (queueIn bytes)
-unfolding isWhole queueIn
-whole-parsed bytes = go (parse bytes)
-  where
-    go : (o : Option Queue) → isSome o ≡ true → o ≡ some (orEmpty o)
-    go none e = let z : _≡_ {A = ℕ} 0 1 = cc in absurd (omega arith)
-    go (some q) e = refl
+use Rattle.marks.specs.Queue.{queueIn}
+use Rattle.marks.proofs.Parsed.{whole-parsed}
+use Rattle.filling.specs.Filling.{remaining, FillOutcome}
+use Rattle.filling.proofs.Front.{Front, front, nothing, inside, length-is, first-is, part, behind}
 
 -- the loop's invariant
 pub record Filling (bytes after : List ℕ) (at start : ℕ) : Type 0 where

@@ -3,9 +3,9 @@ use native.Mathlib.Omega.{arith}
 use Prim.Native.Nat.{_-_}
 use lib.ListN.{length, length-take, length-drop}
 use Rattle.basics.proofs.Lists.{bytes-each}
-use Rattle.sender.proofs.Taking.{Filling, begins, full, reached, goes-on, cuts, ends}
-use Rattle.sender.proofs.filling.fill.Statement.{statement}
-use Rattle.sender.proofs.filling.fill.Tie as tie
+use Rattle.filling.proofs.Taking.{Filling, begins, full, reached, goes-on, cuts, ends}
+use Rattle.filling.proofs.fill.Statement.{statement}
+use Rattle.filling.proofs.fill.Tie as tie
 
 abbrev Inv-loop : tie.InvT-loop
 Inv-loop bytes area₀ at₀ start₀ area at start = Filling bytes area at start
