@@ -145,7 +145,12 @@ pub fn apply(
         let joined = joining::join(area, held, hold, list);
         return applied(missed, txfn, joined);
     }
-    applied(missed, txfn, Joined { held, packets: 0, listed: 0 })
+    let unjoined = Joined {
+        held,
+        packets: 0,
+        listed: 0,
+    };
+    applied(missed, txfn, unjoined)
 }
 
 pub enum ReceiveAnswer {

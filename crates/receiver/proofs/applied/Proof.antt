@@ -5,17 +5,12 @@ use Rattle.receiver.specs.declared.ApplyAnswer.the-variants.{Applied}
 use borrow.Author.Needs.{needs}
 use Rattle.receiver.proofs.applied.Statement.{statement}
 use Rattle.receiver.proofs.applied.Tie as tie
-use Rattle.receiver.proofs.applied.Reads as reads
-use Rattle.receiver.proofs.applied.Lts as lts
-use Rattle.header.proofs.Txfn.next.Reads as next-reads
 
--- src/lib.rt:109:9
 next-requires : tie.Need-next-requires
 next-requires c κs = search needs
 
--- src/lib.rt:106:1
 returns : tie.Need-returns
-returns c = 
+returns c =
     let at-args = c .before .args in
     let at-next = c .next in
     ap (λ (n : ℕ). Applied (at-args .missed) (at-args .joined .packets) (at-args .joined .listed) (record { expected = Frame (record { 0 = n }); held = (at-args .joined .held) }))

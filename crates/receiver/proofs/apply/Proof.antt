@@ -1,103 +1,152 @@
+use mathlib.Core.Path.{sym, _∙_}
+use Rattle.lent.proofs.Outcome.{refused, kept}
+use Rattle.receiver.specs.declared.ApplyAnswer.the-variants.{Refused}
+use Rattle.receiver.proofs.Applying.{buffers-first, held-inside, held-length, judged, join-ready, data-done, other-done}
 use borrow.Author.Needs.{needs}
 use Rattle.receiver.proofs.apply.Statement.{statement}
 use Rattle.receiver.proofs.apply.Tie as tie
-use Rattle.receiver.proofs.apply.Reads as reads
-use Rattle.receiver.proofs.apply.Lts as lts
-use Rattle.joining.proofs.join.Reads as join-reads
-use Rattle.receiver.proofs.applied.Reads as applied-reads
-use Rattle.receiver.proofs.area_refusal.Reads as area-refusal-reads
-use Rattle.receiver.proofs.buffers_refusal.Reads as buffers-refusal-reads
-use Rattle.receiver.proofs.held_after.Reads as held-after-reads
-use Rattle.receiver.proofs.is_data.Reads as is-data-reads
-use Rattle.receiver.proofs.missed_before.Reads as missed-before-reads
 
--- src/lib.rt:131:9
 buffers-refusal-requires : tie.Need-buffers-refusal-requires
 buffers-refusal-requires c κs = search needs
 
--- src/lib.rt:133:9
 same-length : tie.Need-same-length
 same-length c = search needs
 
--- src/lib.rt:133:9
 same-length-2 : tie.Need-same-length-2
 same-length-2 c = search needs
 
--- src/lib.rt:133:9
 returns : tie.Need-returns
-returns c = ?
+returns c =
+    let at-args = c .before .before .before .before .before .before .before .args in
+    let at-buffers-refusal = c .before .buffers-refusal in
+    let at-if1 = c .if1 in
+    let e = buffers-first (at-args .header) (at-args .area .now) (at-args .receiver) (at-args .hold .now) (at-args .list .now) (at-buffers-refusal .result) (at-buffers-refusal .ensures) (at-if1 .taken) in
+    record {
+      answer = refused _ _ _ (λ n. Refused n) e (at-if1 .taken);
+      held = kept _ _ _ _ e (at-if1 .taken);
+      listed = kept _ _ _ _ e (at-if1 .taken);
+    }
 
--- src/lib.rt:138:9
 missed-before-requires : tie.Need-missed-before-requires
 missed-before-requires c κs = search needs
 
--- src/lib.rt:139:9
 held-after-requires : tie.Need-held-after-requires
 held-after-requires c κs = search needs
 
--- src/lib.rt:140:43
 slice-reshare-prefix-area-refusal : tie.Need-slice-reshare-prefix-area-refusal
-slice-reshare-prefix-area-refusal c = ?
+slice-reshare-prefix-area-refusal c =
+    let at-buffers-refusal = c .before .before .before .before .buffers-refusal in
+    let at-if1 = c .before .before .before .if1 in
+    let at-args = c .before .before .before .before .before .before .before .before .before .before .args in
+    let at-missed-before = c .before .missed-before in
+    let at-held-after = c .held-after in
+    let pass = sym (at-buffers-refusal .ensures) ∙ (at-if1 .left) in
+    held-inside (at-args .area .now) (at-args .receiver) (at-args .hold .now) (at-args .list .now) (at-missed-before .result) (at-held-after .result) pass (at-held-after .ensures)
 
--- src/lib.rt:140:43
 slice-aggregate-area-refusal : tie.Need-slice-aggregate-area-refusal
-slice-aggregate-area-refusal c = ?
+slice-aggregate-area-refusal c =
+    let at-buffers-refusal = c .before .before .before .before .before .buffers-refusal in
+    let at-if1 = c .before .before .before .before .if1 in
+    let at-args = c .before .before .before .before .before .before .before .before .before .before .before .args in
+    let at-missed-before = c .before .before .missed-before in
+    let at-held-after = c .before .held-after in
+    let pass = sym (at-buffers-refusal .ensures) ∙ (at-if1 .left) in
+    held-length (at-args .area .now) (at-args .receiver) (at-args .hold .now) (at-args .list .now) (at-missed-before .result) (at-held-after .result) pass (at-held-after .ensures)
 
--- src/lib.rt:140:9
 area-refusal-requires : tie.Need-area-refusal-requires
 area-refusal-requires c κs = search needs
 
--- src/lib.rt:142:9
 same-length-3 : tie.Need-same-length-3
 same-length-3 c = search needs
 
--- src/lib.rt:142:9
 same-length-4 : tie.Need-same-length-4
 same-length-4 c = search needs
 
--- src/lib.rt:142:9
 returns-2 : tie.Need-returns-2
-returns-2 c = ?
+returns-2 c =
+    let at-buffers-refusal = c .before .before .before .before .before .before .before .buffers-refusal in
+    let at-if1 = c .before .before .before .before .before .before .if1 in
+    let at-args = c .before .before .before .before .before .before .before .before .before .before .before .before .before .args in
+    let at-missed-before = c .before .before .before .before .missed-before in
+    let at-held-after = c .before .before .before .held-after in
+    let at-area-refusal = c .before .area-refusal in
+    let at-if2 = c .if2 in
+    let pass = sym (at-buffers-refusal .ensures) ∙ (at-if1 .left) in
+    let k = judged (at-args .header) (at-args .area .now) (at-args .receiver) (at-args .hold .now) (at-args .list .now) pass (at-missed-before .ensures) (at-held-after .ensures) (at-area-refusal .ensures) in
+    record {
+      answer = refused _ _ _ (λ n. Refused n) (k .refusal) (at-if2 .taken);
+      held = kept _ _ _ _ (k .refusal) (at-if2 .taken);
+      listed = kept _ _ _ _ (k .refusal) (at-if2 .taken);
+    }
 
--- src/lib.rt:144:8
 is-data-requires : tie.Need-is-data-requires
 is-data-requires c κs = search needs
 
--- src/lib.rt:145:13
 join-requires : tie.Need-join-requires
-join-requires c κs = ?
+join-requires c κs =
+    let at-buffers-refusal = c .before .before .before .before .before .before .before .before .before .before .before .buffers-refusal in
+    let at-if1 = c .before .before .before .before .before .before .before .before .before .before .if1 in
+    let at-args = c .before .before .before .before .before .before .before .before .before .before .before .before .before .before .before .before .before .args in
+    let at-missed-before = c .before .before .before .before .before .before .before .before .missed-before in
+    let at-held-after = c .before .before .before .before .before .before .before .held-after in
+    let at-area-refusal = c .before .before .before .before .before .area-refusal in
+    let at-if2 = c .before .before .before .before .if2 in
+    let at-is-data = c .before .before .before .is-data in
+    let at-if3 = c .before .before .if3 in
+    let pass = sym (at-buffers-refusal .ensures) ∙ (at-if1 .left) in
+    let k = judged (at-args .header) (at-args .area .now) (at-args .receiver) (at-args .hold .now) (at-args .list .now) pass (at-missed-before .ensures) (at-held-after .ensures) (at-area-refusal .ensures) in
+    join-ready k (at-if2 .left) (sym (at-is-data .ensures) ∙ (at-if3 .taken))
 
--- src/lib.rt:146:9
 applied-requires : tie.Need-applied-requires
 applied-requires c κs = search needs
 
--- src/lib.rt:146:9
 same-length-5 : tie.Need-same-length-5
 same-length-5 c = search needs
 
--- src/lib.rt:146:9
 same-length-6 : tie.Need-same-length-6
 same-length-6 c = search needs
 
--- src/lib.rt:146:9
 returns-3 : tie.Need-returns-3
-returns-3 c = ?
+returns-3 c =
+    let at-buffers-refusal = c .before .before .before .before .before .before .before .before .before .before .before .before .before .before .before .before .before .buffers-refusal in
+    let at-if1 = c .before .before .before .before .before .before .before .before .before .before .before .before .before .before .before .before .if1 in
+    let at-args = c .before .before .before .before .before .before .before .before .before .before .before .before .before .before .before .before .before .before .before .before .before .before .before .args in
+    let at-missed-before = c .before .before .before .before .before .before .before .before .before .before .before .before .before .before .missed-before in
+    let at-held-after = c .before .before .before .before .before .before .before .before .before .before .before .before .before .held-after in
+    let at-area-refusal = c .before .before .before .before .before .before .before .before .before .before .before .area-refusal in
+    let at-applied = c .applied in
+    let at-if2 = c .before .before .before .before .before .before .before .before .before .before .if2 in
+    let at-is-data = c .before .before .before .before .before .before .before .before .before .is-data in
+    let at-if3 = c .before .before .before .before .before .before .before .before .if3 in
+    let at-join = c .before .before .before .before .before .join in
+    let pass = sym (at-buffers-refusal .ensures) ∙ (at-if1 .left) in
+    let k = judged (at-args .header) (at-args .area .now) (at-args .receiver) (at-args .hold .now) (at-args .list .now) pass (at-missed-before .ensures) (at-held-after .ensures) (at-area-refusal .ensures) in
+    rw (at-applied .ensures) (data-done k (at-if2 .left) (sym (at-is-data .ensures) ∙ (at-if3 .taken)) (at-join .ensures))
 
--- src/lib.rt:148:5
 applied-requires-2 : tie.Need-applied-requires-2
 applied-requires-2 c κs = search needs
 
--- src/lib.rt:122:1
 same-length-7 : tie.Need-same-length-7
 same-length-7 c = search needs
 
--- src/lib.rt:122:1
 same-length-8 : tie.Need-same-length-8
 same-length-8 c = search needs
 
--- src/lib.rt:122:1
 returns-4 : tie.Need-returns-4
-returns-4 c = ?
+returns-4 c =
+    let at-buffers-refusal = c .before .before .before .before .before .before .before .before .before .before .buffers-refusal in
+    let at-if1 = c .before .before .before .before .before .before .before .before .before .if1 in
+    let at-args = c .before .before .before .before .before .before .before .before .before .before .before .before .before .before .before .before .args in
+    let at-missed-before = c .before .before .before .before .before .before .before .missed-before in
+    let at-held-after = c .before .before .before .before .before .before .held-after in
+    let at-area-refusal = c .before .before .before .before .area-refusal in
+    let at-applied2 = c .applied2 in
+    let at-if2 = c .before .before .before .if2 in
+    let at-is-data = c .before .before .is-data in
+    let at-if3 = c .before .if3 in
+    let pass = sym (at-buffers-refusal .ensures) ∙ (at-if1 .left) in
+    let k = judged (at-args .header) (at-args .area .now) (at-args .receiver) (at-args .hold .now) (at-args .list .now) pass (at-missed-before .ensures) (at-held-after .ensures) (at-area-refusal .ensures) in
+    rw (at-applied2 .ensures) (other-done k (at-if2 .left) (sym (at-is-data .ensures) ∙ (at-if3 .left)))
 
 pub apply-spec : {M : Type 1} → statement M
 apply-spec =

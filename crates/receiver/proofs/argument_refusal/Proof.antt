@@ -4,31 +4,23 @@ use Rattle.receiver.specs.Receiving.{argumentRefusal}
 use borrow.Author.Needs.{needs}
 use Rattle.receiver.proofs.argument_refusal.Statement.{statement}
 use Rattle.receiver.proofs.argument_refusal.Tie as tie
-use Rattle.receiver.proofs.argument_refusal.Reads as reads
-use Rattle.receiver.proofs.argument_refusal.Lts as lts
-use Rattle.receiver.proofs.buffers_refusal.Reads as buffers-refusal-reads
-use Rattle.scrambler.proofs.are_taps.Reads as are-taps-reads
 
--- src/lib.rt:166:9
 are-taps-requires : tie.Need-are-taps-requires
 are-taps-requires c κs = search needs
 
--- src/lib.rt:167:9
 returns : tie.Need-returns
 unfolding argumentRefusal
-returns c = 
+returns c =
     let at-are-taps = c .before .are-taps in
     let at-if1 = c .if1 in
     simp (sym (at-are-taps .ensures) ∙ not-true _ (at-if1 .taken))
 
--- src/lib.rt:169:5
 buffers-refusal-requires : tie.Need-buffers-refusal-requires
 buffers-refusal-requires c κs = search needs
 
--- src/lib.rt:163:1
 returns-2 : tie.Need-returns-2
 unfolding argumentRefusal
-returns-2 c = 
+returns-2 c =
     let at-are-taps = c .before .before .are-taps in
     let at-if1 = c .before .if1 in
     let at-buffers-refusal = c .buffers-refusal in

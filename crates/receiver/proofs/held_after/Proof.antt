@@ -1,18 +1,14 @@
 use borrow.Author.Tests.{eq-eqb, ne-eqb}
 use Rattle.receiver.proofs.held_after.Statement.{statement}
 use Rattle.receiver.proofs.held_after.Tie as tie
-use Rattle.receiver.proofs.held_after.Reads as reads
-use Rattle.receiver.proofs.held_after.Lts as lts
 
--- src/lib.rt:59:1
 returns : tie.Need-returns
-returns c = 
+returns c =
     let at-if1 = c .if1 in
     simp (eq-eqb _ _ (at-if1 .taken))
 
--- src/lib.rt:59:1
 returns-2 : tie.Need-returns-2
-returns-2 c = 
+returns-2 c =
     let at-if1 = c .if1 in
     simp (ne-eqb _ _ (at-if1 .left))
 

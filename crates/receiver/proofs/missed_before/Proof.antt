@@ -1,29 +1,21 @@
 use borrow.Author.Needs.{needs}
 use Rattle.receiver.proofs.missed_before.Statement.{statement}
 use Rattle.receiver.proofs.missed_before.Tie as tie
-use Rattle.receiver.proofs.missed_before.Reads as reads
-use Rattle.receiver.proofs.missed_before.Lts as lts
-use Rattle.header.proofs.Txfn.missed.Reads as missed-reads
 
--- src/lib.rt:53:27
 enum-told : tie.Need-enum-told
 enum-told c = search needs
 
--- src/lib.rt:54:25
 enum-known-expected : tie.Need-enum-known-expected
 enum-known-expected c = search needs
 
--- src/lib.rt:54:36
 missed-requires : tie.Need-missed-requires
 missed-requires c κs = search needs
 
--- src/lib.rt:49:1
 returns : tie.Need-returns
 returns c = search needs
 
--- src/lib.rt:49:1
 returns-2 : tie.Need-returns-2
-returns-2 c = 
+returns-2 c =
     let at-expected = c .before .before .expected in
     let at-missed = c .missed in
     simp (at-expected .given .1) (at-missed .ensures)

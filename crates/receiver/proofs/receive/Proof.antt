@@ -1,80 +1,91 @@
+use mathlib.Core.Path.{sym, _∙_}
+use Rattle.lent.proofs.Outcome.{refused, kept}
+use Rattle.receiver.specs.declared.ReceiveAnswer.the-variants.{Refused}
+use Rattle.receiver.proofs.Opened.{argument-first, frame-then, opened-done}
 use borrow.Author.Needs.{needs}
 use Rattle.receiver.proofs.receive.Statement.{statement}
 use Rattle.receiver.proofs.receive.Tie as tie
-use Rattle.receiver.proofs.receive.Reads as reads
-use Rattle.receiver.proofs.receive.Lts as lts
-use Rattle.frame.proofs.open.Reads as open-reads
-use Rattle.receiver.proofs.apply.Reads as apply-reads
-use Rattle.receiver.proofs.argument_refusal.Reads as argument-refusal-reads
-use Rattle.receiver.proofs.with_header.Reads as with-header-reads
 
--- src/lib.rt:202:9
 argument-refusal-requires : tie.Need-argument-refusal-requires
 argument-refusal-requires c κs = search needs
 
--- src/lib.rt:204:9
 same-length : tie.Need-same-length
 same-length c = search needs
 
--- src/lib.rt:204:9
 same-length-2 : tie.Need-same-length-2
 same-length-2 c = search needs
 
--- src/lib.rt:204:9
 returns : tie.Need-returns
-returns c = ?
+returns c =
+    let at-args = c .before .before .before .before .before .before .before .args in
+    let at-argument-refusal = c .before .argument-refusal in
+    let at-if1 = c .if1 in
+    let e = argument-first (at-args .taps) (at-args .frame .now) (at-args .receiver) (at-args .hold .now) (at-args .list .now) (at-argument-refusal .result) (at-argument-refusal .ensures) (at-if1 .taken) in
+    record {
+      answer = refused _ _ _ (λ n. Refused n) e (at-if1 .taken);
+      held = kept _ _ _ _ e (at-if1 .taken);
+      listed = kept _ _ _ _ e (at-if1 .taken);
+    }
 
--- src/lib.rt:207:43
 slice-aggregate-open : tie.Need-slice-aggregate-open
 slice-aggregate-open c = search needs
 
--- src/lib.rt:207:9
 open-requires : tie.Need-open-requires
 open-requires c κs = search needs
 
--- src/lib.rt:209:29
 enum-known-opened : tie.Need-enum-known-opened
 enum-known-opened c = search needs
 
--- src/lib.rt:210:28
 enum-known-opened-2 : tie.Need-enum-known-opened-2
 enum-known-opened-2 c = search needs
 
--- src/lib.rt:211:40
 slice-aggregate-apply : tie.Need-slice-aggregate-apply
 slice-aggregate-apply c = search needs
 
--- src/lib.rt:211:17
 apply-requires : tie.Need-apply-requires
 apply-requires c κs = search needs
 
--- src/lib.rt:212:13
 with-header-requires : tie.Need-with-header-requires
 with-header-requires c κs = search needs
 
--- src/lib.rt:193:1
 same-length-3 : tie.Need-same-length-3
 same-length-3 c = search needs
 
--- src/lib.rt:193:1
 same-length-4 : tie.Need-same-length-4
 same-length-4 c = search needs
 
--- src/lib.rt:193:1
 returns-2 : tie.Need-returns-2
-returns-2 c = ?
+returns-2 c =
+    let at-argument-refusal = c .before .before .before .before .before .before .before .argument-refusal in
+    let at-if1 = c .before .before .before .before .before .before .if1 in
+    let at-args = c .before .before .before .before .before .before .before .before .before .before .before .before .before .args in
+    let at-opened = c .before .opened in
+    let at-open = c .before .before .before .before .«open» in
+    let none = sym (at-argument-refusal .ensures) ∙ (at-if1 .left) in
+    let told = frame-then (at-args .taps) (at-args .frame .now) (at-args .receiver) (at-args .hold .now) (at-args .list .now) none _ (sym (at-opened .given .1) ∙ (at-open .ensures .answer)) in
+    record {
+      answer = refused _ _ _ (λ n. Refused n) (told .0) (told .1);
+      held = kept _ _ _ _ (told .0) (told .1);
+      listed = kept _ _ _ _ (told .0) (told .1);
+    }
 
--- src/lib.rt:193:1
 same-length-5 : tie.Need-same-length-5
 same-length-5 c = search needs
 
--- src/lib.rt:193:1
 same-length-6 : tie.Need-same-length-6
 same-length-6 c = search needs
 
--- src/lib.rt:193:1
 returns-3 : tie.Need-returns-3
-returns-3 c = ?
+returns-3 c =
+    let at-argument-refusal = c .before .before .before .before .before .before .before .before .before .before .before .before .before .before .before .before .argument-refusal in
+    let at-if1 = c .before .before .before .before .before .before .before .before .before .before .before .before .before .before .before .if1 in
+    let at-args = c .before .before .before .before .before .before .before .before .before .before .before .before .before .before .before .before .before .before .before .before .before .before .args in
+    let at-opened2 = c .before .before .before .before .before .before .before .before .before .before .opened2 in
+    let at-open = c .before .before .before .before .before .before .before .before .before .before .before .before .before .«open» in
+    let at-apply = c .before .before .before .before .before .apply in
+    let at-with-header = c .with-header in
+    let none = sym (at-argument-refusal .ensures) ∙ (at-if1 .left) in
+    opened-done (at-args .taps) (at-args .frame .now) (at-args .receiver) (at-args .hold .now) (at-args .list .now) none (sym (at-opened2 .given .1) ∙ (at-open .ensures .answer)) (at-open .ensures .bytes) (at-apply .ensures) (at-with-header .ensures)
 
 pub receive-spec : {M : Type 1} → statement M
 receive-spec =
