@@ -8,7 +8,7 @@ use native.Mathlib.Nat.{add-sub-cancel-left}
 use native.Mathlib.Omega.{arith}
 use lib.ListN.{length, take, drop}
 use lib.Dec.{leb, eqb}
-use borrow.Author.Tests.{leb-true, leb-false, le-leb, lt-leb, eqb-true}
+use borrow.Author.Tests.{leb-true, leb-false, le-leb, lt-leb}
 use Rattle.link.specs.Link.{Piece, mostJoined, fitsPiece}
 use Rattle.link.specs.Store.{isSome}
 use Rattle.packing.specs.declared.Record.{Record}
@@ -29,7 +29,7 @@ fits-alone [] first last bytes e = refl
 fits-alone (x ∷ held) first last bytes e = absurd (omega arith)
 
 -- any other by the sum
-by-sum : (held : List ℕ) (first last : Bool) (bytes : List ℕ) → first ≡ false → (length held ≡ 0 → ⊥)
+pub by-sum : (held : List ℕ) (first last : Bool) (bytes : List ℕ) → first ≡ false → (length held ≡ 0 → ⊥)
     → fitsPiece held first last bytes ≡ leb (length held + length bytes) (mostJoined last)
 by-sum [] first last bytes e n = absurd (n refl)
 by-sum (x ∷ held) first last bytes e n = rw e
