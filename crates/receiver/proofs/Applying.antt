@@ -20,6 +20,7 @@ use Rattle.link.specs.Packing.{receiveRead}
 use Rattle.link.proofs.Hold.{Shape, receive-bound}
 use Rattle.joining.specs.Joining.{piecesRefusal, recordsRefusal, orNone, joinedStep, listBytes, JoinOutcome}
 use Rattle.joining.specs.declared.Joined.{Joined}
+use Rattle.joining.proofs.Growing.{written-nothing}
 use Rattle.packing.specs.Reading.{read}
 use Rattle.packing.proofs.Reading.{read-shape}
 use Rattle.header.specs.declared.FrameKind.{FrameKind}
@@ -161,11 +162,6 @@ written-own : (buffer : List ℕ) (n : ℕ) → n ≤ length buffer → buffer �
 unfolding written
 written-own buffer n h = sym (rw (zero-add, length-take-le n buffer h) (take-append-drop n buffer))
 
--- a buffer with nothing written to it
-written-none : (buffer : List ℕ) → buffer ≡ written buffer 0 []
-unfolding written
-written-none buffer = refl
-
 -- an answer, part by part
 applied-path : {missed missed′ packets packets′ listed listed′ held held′ : ℕ} (number : ℕ)
     → missed ≡ missed′ → packets ≡ packets′ → listed ≡ listed′ → held ≡ held′
@@ -217,7 +213,7 @@ module _ {header : Header} {area : List ℕ} {receiver : Receiver} {hold list : 
   other-done d =
       let inside : held ≤ length hold = omega (arith, k .few, k .passed .most, k .passed .long) in
       as-joined (record { held = take held hold; out = [] }) (taken-is false d)
-      (sym (length-take-le held hold inside)) refl refl (written-own hold held inside) (written-none list)
+      (sym (length-take-le held hold inside)) refl refl (written-own hold held inside) (sym (written-nothing list 0))
 
 -- ---- the call
 
