@@ -1,0 +1,2 @@
+pub mod Applying
+pub mod Receiving
