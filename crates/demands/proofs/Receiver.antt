@@ -6,8 +6,7 @@ use mathlib.Core.List.{List, [], _∷_}
 use Prim.Native.Nat.{ℕ, suc, _+_, _%_, _≤_}
 use native.Mathlib.Nat.{add-zero, add-suc, suc-add}
 use native.Mathlib.Omega.{arith}
-use lib.ListN.{length, take, drop, length-take}
-use lib.Seq.{take-at}
+use lib.ListN.{length, length-take}
 use borrow.Author.Tests.{eq-eqb, le-leb}
 use Rattle.basics.specs.Lists.{zeros}
 use Rattle.basics.specs.Counts.{nextTxfn}
@@ -18,9 +17,8 @@ use Rattle.lent.proofs.Outcome.{accepted, refused, kept}
 use Rattle.lent.proofs.Written.{written-length}
 use Rattle.scrambler.specs.Scrambler.{tapsAllowed}
 use Rattle.header.specs.declared.Header.{Header}
-use Rattle.frame.specs.Opening.{openRefusal, outerRefusal, innerRefusal, unscrambled, openedHeader, openedArea}
+use Rattle.frame.specs.Opening.{openRefusal, openedHeader, openedArea}
 use Rattle.frame.proofs.Built.{built-accepted}
-use Rattle.frame.proofs.Laws.{both-zero, outer-passed}
 use Rattle.link.specs.Link as link
 use Rattle.link.specs.Link.{Packet, ArePackets, Piece, onPieces, fits, missed, heldAfter, receiveWith, receive, Answer}
 use Rattle.link.specs.Ledger.{Mark, lost}
@@ -41,7 +39,8 @@ use Rattle.receiver.specs.declared.ReceiveAnswer.the-variants as answer
 use Rattle.list.specs.Reading.{packetsRead}
 use Rattle.list.proofs.Whole.{list-read}
 use Rattle.demands.specs.Demand3.{Fate, missing, arrives, damaged, receiveLeaves, ReceiverCalls, marks, readOut, learnedFrom, learned}
-use Rattle.demands.proofs.Outcomes.{not-done}
+use Rattle.demands.proofs.Demand1.{every-call-holds}
+use Rattle.demands.proofs.Demand2.{built-size, front-written}
 use Rattle.demands.proofs.Sender.{Sends, AllSend, number-is, pieces-are}
 
 -- The state and the hold's bytes stand for a receiver of `Link`, and are not refused for what they are.
@@ -52,11 +51,6 @@ pub record Holds (receiver : Receiver) (hold : List ℕ) (r : link.Receiver) : T
 
 pub fresh-holds : (hold : List ℕ) → length hold ≡ 9000 → Holds freshReceiver hold link.fresh
 fresh-holds hold e = record { stands = refl; most = omega arith; long = e }
-
--- the front of a buffer that was written from index 0 on
-front-written : (buffer s : List ℕ) → take (length s) (written buffer 0 s) ≡ s
-unfolding written
-front-written buffer s = take-at s (drop (0 + length s) buffer) (length s) refl
 
 -- ---- the pieces of an opened frame are those of a DATA area, or none
 
@@ -76,9 +70,9 @@ module _ (taps : ℕ) {frame : List ℕ} {i : ℕ} {pieces : List Piece} (s : Se
       ∙ built-accepted taps (c .header) (s .opened .area) (c .long) (zeros 1908) t (c .fits-header) (omega (arith, zeros-length 1908))
 
   frame-size : tapsAllowed taps ≡ true → length frame ≡ 2081
-  unfolding openRefusal
   frame-size t =
-      outer-passed taps frame (zeros 1908) (both-zero (outerRefusal taps frame (zeros 1908)) (innerRefusal (unscrambled taps frame)) (opens t) .0) .long
+      let c = s .carries in
+      ap length (c .coded) ∙ built-size taps (c .header) (s .opened .area) t (c .fits-header) (c .long)
 
 -- ---- what comes of a call, by what comes of the frame
 
@@ -112,10 +106,8 @@ module _ (taps : ℕ) (frame : List ℕ) (receiver : Receiver) (hold list : List
 -- whatever is refused, the hold stays
 refused-hold : (taps : ℕ) (frame : List ℕ) (receiver : Receiver) (hold list : List ℕ) (number : ℕ) (hold′ list′ : List ℕ)
     → ReceiveOutcome taps frame receiver hold list (answer.Refused number) hold′ list′ → hold′ ≡ hold
-refused-hold taps frame receiver hold list number hold′ list′ o = not-done _ (answer.Refused number) _ _ _ hold hold′ differs (o .answer) (o .held)
-  where
-    differs : {header : Header} {a b c : ℕ} {after : Receiver} → answer.Refused number ≡ answer.Received header a b c after → ⊥
-    differs e = let z : _≡_ {A = ℕ} 0 1 = cc in omega arith
+refused-hold taps frame receiver hold list number hold′ list′ o =
+    ap (λ (lent : List ℕ × List ℕ). lent .0) (every-call-holds .receive taps frame receiver hold list .refusal (answer.Refused number) number (hold′, list′) o refl .1)
 
 -- ---- a frame that carries pieces is received as `Link` says
 
@@ -199,10 +191,10 @@ module _ (taps : ℕ) (frame : List ℕ) (receiver : Receiver) (hold list : List
         taken-list taps frame receiver hold list r hold′ list′ o accepting whole z,
       )
       (record {
-        learns = ap (λ (l : List ℕ). readOut count (packetsRead l)) (front-written list (listBytes out))
+        learns = ap (λ (l : List ℕ). readOut count (packetsRead l)) (front-written list (listBytes out) (length (listBytes out)) refl)
             ∙ ap (readOut count) (list-read out (out-packets held pieces filled (shaped taps s) e));
         holds = record {
-          stands = λ j. record { expected = some (nextTxfn (number-is taps s j)); held = front-written hold held′ j };
+          stands = λ j. record { expected = some (nextTxfn (number-is taps s j)); held = front-written hold held′ (length held′) refl j };
           most = most;
           long = written-length hold 0 held′ (omega (arith, h .long)) ∙ h .long;
         };

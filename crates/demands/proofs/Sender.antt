@@ -4,7 +4,6 @@ use mathlib.Core.Bool.{Bool, true, false, cond}
 use mathlib.Core.Option.{some}
 use mathlib.Core.List.{List, [], _∷_, map}
 use Prim.Native.Nat.{ℕ, suc, _%_}
-use native.Mathlib.Omega.{arith}
 use lib.ListN.{take}
 use Rattle.basics.specs.Lists.{Bytes}
 use Rattle.header.specs.declared.Fields.{Fields}
@@ -23,7 +22,7 @@ use Rattle.packing.specs.Filling.{load}
 use Rattle.packing.specs.Reading.{read}
 use Rattle.packing.proofs.Bench.{bench}
 use Rattle.joining.specs.Joining.{orNone}
-use Rattle.sender.specs.Put.{putRefusal, putSender, putBytes, PutOutcome}
+use Rattle.sender.specs.Put.{PutOutcome}
 use Rattle.sender.specs.Next.{orEmpty, queueIn, NextOutcome}
 use Rattle.sender.specs.declared.Sender.{Sender}
 use Rattle.sender.specs.declared.PutAnswer.the-variants as put
@@ -33,7 +32,7 @@ use Rattle.sender.proofs.Putting.{put-stands}
 use Rattle.sender.proofs.Carried.{Carries, next-stands}
 use Rattle.receiver.specs.Applying.{piecesOf}
 use Rattle.demands.specs.Demand3.{SenderCall, callPut, callNext, SenderCalls, packetsPut, framesSent, queueLeft, piecesCarried}
-use Rattle.demands.proofs.Outcomes.{not-done}
+use Rattle.demands.proofs.Demand1.{every-call-holds}
 
 -- the calls that were not refused
 abbrev pub granted : List SenderCall → List Call
@@ -45,10 +44,7 @@ granted (callNext fields out (next.Refused number) queue after ∷ calls) = gran
 
 -- a refusal leaves the queue
 put-kept : (queue : List ℕ) (sender : Sender) (packet : List ℕ) (number : ℕ) (after : List ℕ) → PutOutcome queue sender packet (put.Refused number) after → after ≡ queue
-put-kept queue sender packet number after o = not-done _ (put.Refused number) _ _ _ queue after differs (o .answer) (o .bytes)
-  where
-    differs : put.Refused number ≡ put.Taken (putSender sender packet) → ⊥
-    differs e = let z : _≡_ {A = ℕ} 0 1 = cc in omega arith
+put-kept queue sender packet number after o = every-call-holds .put queue sender packet .refusal (put.Refused number) number after o refl .1
 
 module _ (taps : ℕ) where
   -- a coded frame has the number of frame i, and these pieces
@@ -105,16 +101,14 @@ module _ (taps : ℕ) where
 
   next-kept : (fields : Fields) (sender : Sender) (queue out : List ℕ) (number : ℕ) (left after : List ℕ)
       → NextOutcome taps fields sender queue out (next.Refused number) left after → left ≡ queue
-  next-kept fields sender queue out number left after o = not-done _ (next.Refused number) _ _ _ queue left differs (o .answer) (o .bytes)
-    where
-      differs : {state : Sender} {kind : FrameKind} → next.Refused number ≡ next.Sent state kind → ⊥
-      differs e = let z : _≡_ {A = ℕ} 0 1 = cc in omega arith
+  next-kept fields sender queue out number left after o =
+      ap (λ (lent : List ℕ × List ℕ). lent .0) (every-call-holds .next-frame taps fields sender queue out .refusal (next.Refused number) number (left, after) o refl .1)
 
   bench-pieces : (q : Queue) → IsQueue q → piecesIn bench (frameFor bench q) ≡ some (cut (load q) q .pieces)
   unfolding bench
   bench-pieces q k = frame-pieces bench q k
 
-  queue-is : (bytes : List ℕ) (queue : Queue) → parse bytes ≡ some queue → queueIn bytes ≡ queue
+  pub queue-is : (bytes : List ℕ) (queue : Queue) → parse bytes ≡ some queue → queueIn bytes ≡ queue
   unfolding queueIn
   queue-is bytes queue e = ap orEmpty e
 
