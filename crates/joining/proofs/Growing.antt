@@ -1,5 +1,5 @@
 -- One record is joined: what is written into the list and the hold, and what that is to `onPiece`.
-use mathlib.Core.Path.{_≡_, refl, sym, ap, _∙_}
+use mathlib.Core.Path.{_≡_, refl, sym, ap, _∙_, subst}
 use mathlib.Core.Bool.{Bool, true, false}
 use mathlib.Core.List.{List, [], _∷_, _++_, append-nil}
 use Prim.Native.Nat.{ℕ, _+_, _≤_}
@@ -14,7 +14,7 @@ use Rattle.link.specs.Link.{onPiece, mostJoined}
 use Rattle.link.specs.Store.{marked}
 use Rattle.joining.specs.declared.Joined.{Joined}
 use Rattle.joining.specs.Joining.{listBytes}
-use Rattle.joining.specs.Step.{grown, Ready, StepOutcome}
+use Rattle.joining.specs.Step.{grown, Ready, Growable, StepOutcome}
 use Rattle.joining.proofs.Refusals.{by-sum}
 
 -- ---- writes
@@ -31,7 +31,8 @@ written-behind d part s h = rw (zero-add, length-append, length-take-le part d h
 
 -- an entry of the list, in three parts
 pub entry-written : (list : List ℕ) (at : ℕ) (held rest : List ℕ) → at + 2 + length held + length rest ≤ length list
-    → written (written (written list at (marked (length held + length rest) [])) (at + 2) held) (at + 2 + length held) rest ≡ written list at (listBytes ((held ++ rest) ∷ []))
+    → written (written (written list at (marked (length held + length rest) [])) (at + 2) held) (at + 2 + length held) rest
+    ≡ written list at (listBytes ((held ++ rest) ∷ []))
 entry-written list at held rest h =
     let mark = length held + length rest in
     let two : at + length (marked mark held) ≡ at + 2 + length held = omega arith in
@@ -46,7 +47,7 @@ entry-length held rest = simp length-append (omega arith)
 
 -- ---- a record behind a part
 
-module _ (part : ℕ) (last : Bool) (bytes : List ℕ) (before : Joined) (hold list : List ℕ) (long : length hold ≡ 9000) (fit : part + length bytes ≤ mostJoined last) where
+module _ {part : ℕ} {last : Bool} {bytes : List ℕ} {before : Joined} {hold list : List ℕ} (g : Growable part last bytes before hold list) where
   most : mostJoined last ≤ 9000
   most = go last
     where
@@ -55,7 +56,7 @@ module _ (part : ℕ) (last : Bool) (bytes : List ℕ) (before : Joined) (hold l
       go false = omega arith
 
   pub inside : part + length bytes ≤ 9000
-  inside = omega (arith, most)
+  inside = omega (arith, most, g .fitting)
 
   pub grows-whole : (list′ : List ℕ) → last ≡ true → list′ ≡ written list (before .listed) (listBytes ((take part hold ++ bytes) ∷ []))
       → StepOutcome (grown (take part hold) last bytes) before hold list
@@ -63,7 +64,7 @@ module _ (part : ℕ) (last : Bool) (bytes : List ℕ) (before : Joined) (hold l
   grows-whole list′ e w = rw e (record {
     held = refl;
     packets = refl;
-    listed = omega (arith, entry-length (take part hold) bytes, length-take-le part hold (omega (arith, inside)));
+    listed = omega (arith, entry-length (take part hold) bytes, length-take-le part hold (omega (arith, inside, g .hold-long)));
     hold-bytes = sym (written-nothing hold 0);
     list-bytes = w;
   })
@@ -72,24 +73,25 @@ module _ (part : ℕ) (last : Bool) (bytes : List ℕ) (before : Joined) (hold l
       → StepOutcome (grown (take part hold) last bytes) before hold list
       (record { held = part + length bytes; packets = before .packets; listed = before .listed }) hold′ list
   grows-part hold′ e w = rw e (record {
-    held = sym (length-append (take part hold) bytes ∙ ap (λ (n : ℕ). n + length bytes) (length-take-le part hold (omega (arith, inside))));
+    held = sym (length-append (take part hold) bytes ∙ ap (λ (n : ℕ). n + length bytes) (length-take-le part hold (omega (arith, inside, g .hold-long))));
     packets = sym (add-zero (before .packets));
     listed = sym (add-zero (before .listed));
-    hold-bytes = w ∙ written-behind hold part bytes (omega (arith, inside));
+    hold-bytes = w ∙ written-behind hold part bytes (omega (arith, inside, g .hold-long));
     list-bytes = sym (written-nothing list (before .listed));
   })
 
 -- ---- a record by its marks
 
 -- "first" drops what is held
-pub starts : (held : List ℕ) (first last : Bool) (bytes : List ℕ) → first ≡ true → grown [] last bytes ≡ onPiece held first last bytes
+starts : (held : List ℕ) (first last : Bool) (bytes : List ℕ) → first ≡ true → grown [] last bytes ≡ onPiece held first last bytes
 starts held first last bytes e = rw e (go last)
   where
     go : (b : Bool) → grown [] b bytes ≡ onPiece held true b bytes
     go true = refl
     go false = refl
 
-pub continues : (held : List ℕ) (first last : Bool) (bytes : List ℕ) → first ≡ false → (length held ≡ 0 → ⊥) → grown held last bytes ≡ onPiece held first last bytes
+continues : (held : List ℕ) (first last : Bool) (bytes : List ℕ) → first ≡ false → (length held ≡ 0 → ⊥)
+    → grown held last bytes ≡ onPiece held first last bytes
 continues [] first last bytes e n = absurd (n refl)
 continues (x ∷ held) first last bytes e n = rw e (go last)
   where
@@ -101,7 +103,7 @@ module _ {first last : Bool} {bytes : List ℕ} {before : Joined} {hold list : L
   held-length : length (take (before .held) hold) ≡ before .held
   held-length = length-take-le (before .held) hold (omega (arith, r .hold-long, r .held-low))
 
-  pub held-some : (before .held ≡ 0 → ⊥) → length (take (before .held) hold) ≡ 0 → ⊥
+  held-some : (before .held ≡ 0 → ⊥) → length (take (before .held) hold) ≡ 0 → ⊥
   held-some n z = n (sym held-length ∙ z)
 
   pub first-fit : 0 + length bytes ≤ mostJoined last
@@ -125,3 +127,13 @@ module _ {first last : Bool} {bytes : List ℕ} {before : Joined} {hold list : L
     hold-bytes = sym (written-nothing hold 0);
     list-bytes = sym (written-nothing list (before .listed));
   })
+
+  module _ {result : Joined} {hold′ list′ : List ℕ} where
+    pub starts-anew : first ≡ true → StepOutcome (grown [] last bytes) before hold list result hold′ list′
+        → StepOutcome (onPiece (take (before .held) hold) first last bytes) before hold list result hold′ list′
+    starts-anew e o = subst (λ s. StepOutcome s before hold list result hold′ list′) (starts (take (before .held) hold) first last bytes e) o
+
+    pub goes-behind : first ≡ false → (before .held ≡ 0 → ⊥) → StepOutcome (grown (take (before .held) hold) last bytes) before hold list result hold′ list′
+        → StepOutcome (onPiece (take (before .held) hold) first last bytes) before hold list result hold′ list′
+    goes-behind e n o =
+        subst (λ s. StepOutcome s before hold list result hold′ list′) (continues (take (before .held) hold) first last bytes e (held-some n)) o

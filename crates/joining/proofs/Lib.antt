@@ -2,3 +2,4 @@ pub mod Refusals
 pub mod Growing
 pub mod Pieces
 pub mod Reached
+pub mod Laws

@@ -19,7 +19,8 @@ use Rattle.joining.proofs.Refusals.{fits-first}
 
 pub lists-append : (ps qs : List Packet) → listBytes (ps ++ qs) ≡ listBytes ps ++ listBytes qs
 lists-append [] qs = refl
-lists-append (p ∷ ps) qs = ap (λ l. length p / 256 ∷ length p % 256 ∷ l) (ap (λ l. p ++ l) (lists-append ps qs) ∙ sym (append-assoc p (listBytes ps) (listBytes qs)))
+lists-append (p ∷ ps) qs =
+    ap (λ l. length p / 256 ∷ length p % 256 ∷ l) (ap (λ l. p ++ l) (lists-append ps qs) ∙ sym (append-assoc p (listBytes ps) (listBytes qs)))
 
 -- a packet takes two bytes more in the list than its pieces
 pub step-size : (held : List ℕ) (first last : Bool) (bytes : List ℕ)

@@ -76,7 +76,8 @@ module _ (area : List ℕ) (before : ℕ) (hold₀ list₀ : List ℕ)
 
 -- ---- a turn
 
-module _ {area : List ℕ} {before : ℕ} {hold₀ list₀ hold list : List ℕ} {at : ℕ} {joined : Joined} (r : Reached area before hold₀ list₀ hold list at joined) where
+module _ {area : List ℕ} {before : ℕ} {hold₀ list₀ hold list : List ℕ} {at : ℕ} {joined : Joined}
+    (r : Reached area before hold₀ list₀ hold list at joined) where
   held-length : length (take (joined .held) hold) ≡ joined .held
   held-length = length-take-le (joined .held) hold (omega (arith, r .held-low, r .hold-long))
 
@@ -141,16 +142,21 @@ module _ {area : List ℕ} {before : ℕ} {hold₀ list₀ hold list : List ℕ}
     })
 
     module _ (next : Joined) (hold′ list′ : List ℕ) (low : before ≤ 8999) (long : 10907 ≤ length list₀)
-        (outcome : StepOutcome (onPiece (take (joined .held) hold) (found .first) (found .last) (take (found .start + found .length - found .start) (drop (found .start) area)))
+        (outcome : StepOutcome (onPiece (take (joined .held) hold) (found .first) (found .last)
+        (take (found .start + found .length - found .start) (drop (found .start) area)))
         joined hold list next hold′ list′) where
       abbrev step′ : Step
       step′ = onPiece (take (joined .held) hold) (found .first) (found .last) bytes
 
       out : StepOutcome step′ joined hold list next hold′ list′
-      out = subst (λ l. StepOutcome (onPiece (take (joined .held) hold) (found .first) (found .last) l) joined hold list next hold′ list′) (part-is area found) outcome
+      out =
+          subst (λ l. StepOutcome (onPiece (take (joined .held) hold) (found .first) (found .last) l) joined hold list next hold′ list′)
+          (part-is area found) outcome
 
       below : length (step′ .held) ≤ 8999
-      below = step-held (take (joined .held) hold) (pieceOf area found) (omega (arith, held-length, r .held-low)) (omega (arith, piece-length area at found lie, lie .high)) piece-fits
+      below =
+          step-held (take (joined .held) hold) (pieceOf area found) (omega (arith, held-length, r .held-low))
+          (omega (arith, piece-length area at found lie, lie .high)) piece-fits
 
       -- what is held next is what the record leaves
       held-next : take (next .held) hold′ ≡ step′ .held

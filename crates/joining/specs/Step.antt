@@ -5,7 +5,7 @@ use mathlib.Core.List.{List, [], _∷_, _++_}
 use Prim.Native.Nat.{ℕ, _+_, _≤_, _<_}
 use lib.ListN.{length, take}
 use Rattle.lent.specs.Written.{written}
-use Rattle.link.specs.Link.{Step, fitsPiece}
+use Rattle.link.specs.Link.{Step, mostJoined, fitsPiece}
 use Rattle.joining.specs.declared.Joined.{Joined}
 use Rattle.joining.specs.Joining.{listBytes}
 
@@ -21,6 +21,13 @@ pub record Ready (first last : Bool) (bytes : List ℕ) (before : Joined) (hold 
   pub short : length bytes < 2048
   pub fitting : fitsPiece (take (before .held) hold) first last bytes ≡ true
   pub room : before .listed + 2 + before .held + length bytes ≤ length list
+  pub few : before .packets ≤ 1908
+
+-- A record's bytes can go behind the first `part` bytes of the hold, and into the list if they complete a packet.
+pub record Growable (part : ℕ) (last : Bool) (bytes : List ℕ) (before : Joined) (hold list : List ℕ) : Type 0 where
+  pub hold-long : length hold ≡ 9000
+  pub fitting : part + length bytes ≤ mostJoined last
+  pub room : before .listed + 2 + part + length bytes ≤ length list
   pub few : before .packets ≤ 1908
 
 -- The part then held is the front of the hold, and the packets completed stand in the list behind those before; all other bytes keep their values.

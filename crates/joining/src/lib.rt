@@ -7,7 +7,7 @@ ghost use lib.ListN.{length, take};
 ghost use Rattle.lent.specs.Written.{written};
 ghost use Rattle.link.specs.Link.{onPiece, mostJoined, fitsPiece};
 ghost use Rattle.joining.specs.Joining.{recordsRefusal, listBytes, JoinOutcome};
-ghost use Rattle.joining.specs.Step.{grown, Ready, StepOutcome};
+ghost use Rattle.joining.specs.Step.{grown, Ready, Growable, StepOutcome};
 
 // What is held after a frame, how many packets it completed, and how many bytes of the list they take.
 pub struct Joined {
@@ -110,7 +110,8 @@ fn join_record(
     list: &mut [u8],
 ) -> Joined
     requires { ⌜ Ready first last (now bytes) before (now hold) (now list) ⌝ }
-    ensures { λ r. ⌜ StepOutcome (onPiece (take (before .held) (now (hold .entry))) first last (now (bytes .entry))) before (now (hold .entry)) (now (list .entry)) r (now (hold .exit)) (now (list .exit)) ⌝ }
+    ensures { λ r. ⌜ StepOutcome (onPiece (take (before .held) (now (hold .entry))) first last (now (bytes .entry)))
+        before (now (hold .entry)) (now (list .entry)) r (now (hold .exit)) (now (list .exit)) ⌝ }
 {
     let held = before.held;
     if first {
@@ -131,8 +132,9 @@ fn grow(
     hold: &mut [u8],
     list: &mut [u8],
 ) -> Joined
-    requires { ⌜ (length (now hold) ≡ 9000) × (part + length (now bytes) ≤ mostJoined last) × (before .listed + 2 + part + length (now bytes) ≤ length (now list)) × (before .packets ≤ 1908) ⌝ }
-    ensures { λ r. ⌜ StepOutcome (grown (take part (now (hold .entry))) last (now (bytes .entry))) before (now (hold .entry)) (now (list .entry)) r (now (hold .exit)) (now (list .exit)) ⌝ }
+    requires { ⌜ Growable part last (now bytes) before (now hold) (now list) ⌝ }
+    ensures { λ r. ⌜ StepOutcome (grown (take part (now (hold .entry))) last (now (bytes .entry)))
+        before (now (hold .entry)) (now (list .entry)) r (now (hold .exit)) (now (list .exit)) ⌝ }
 {
     let packets = before.packets;
     let listed = before.listed;

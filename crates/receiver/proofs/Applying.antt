@@ -263,4 +263,4 @@ apply-own header area receiver hold list missed packets listed after hold′ lis
     let most = received-most header area receiver hold (p .most) in
     let answered = x .answer ∙ sym (accepted n n _ _ _ refl z refl) in
     let same : after ≡ receiverAfter header o = cc in
-    (rw same most, ap length (x .held ∙ sym (accepted n n _ hold _ refl z refl)) ∙ written-length hold 0 (o .state .held) (omega (arith, most, p .long)) ∙ p .long)
+    (rw same most, ap length (x .held ∙ sym (accepted n n _ _ _ refl z refl)) ∙ written-length hold 0 (o .state .held) (omega (arith, most, p .long)) ∙ p .long)

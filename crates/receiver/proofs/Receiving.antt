@@ -41,4 +41,4 @@ receive-own taps frame receiver hold list header missed packets listed after hol
     let most = received-most (openedHeader taps frame) (openedArea taps frame) receiver hold (p .most) in
     let answered = x .answer ∙ sym (accepted n n _ _ _ refl z refl) in
     let same : after ≡ receiverAfter (openedHeader taps frame) o = cc in
-    (rw same most, ap length (x .held ∙ sym (accepted n n _ hold _ refl z refl)) ∙ written-length hold 0 (o .state .held) (omega (arith, most, p .long)) ∙ p .long)
+    (rw same most, ap length (x .held ∙ sym (accepted n n _ _ _ refl z refl)) ∙ written-length hold 0 (o .state .held) (omega (arith, most, p .long)) ∙ p .long)

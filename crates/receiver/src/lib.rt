@@ -86,10 +86,7 @@ fn buffers_refusal(size: usize, bytes: &[u8], held: usize, hold: &[u8], list: &[
     if list.len() < 10907 {
         return 2;
     }
-    if 8999 < held {
-        return 3;
-    }
-    0
+    if 8999 < held { 3 } else { 0 }
 }
 
 // 14 and 15; 0 for neither. Only a DATA area is looked into.

@@ -1,5 +1,5 @@
-use Rattle.joining.proofs.Refusals.{fits-first, fits-alone, fits-not, fits-rest}
 use borrow.Author.Needs.{needs}
+use Rattle.joining.proofs.Refusals.{fits-first, fits-alone, fits-not, fits-rest}
 use Rattle.joining.proofs.fits.Statement.{statement}
 use Rattle.joining.proofs.fits.Tie as tie
 
@@ -25,7 +25,8 @@ returns-3 c =
     let at-if2 = c .before .before .if2 in
     let at-most-joined = c .before .most-joined in
     let at-if3 = c .if3 in
-    fits-not (at-args .held .now) (at-args .first) (at-args .last) (at-args .bytes .now) (at-if1 .left) (at-if2 .left) (at-most-joined .result) (at-most-joined .ensures) (at-if3 .taken)
+    fits-not (at-args .held .now) (at-args .first) (at-args .last) (at-args .bytes .now)
+    (at-if1 .left) (at-if2 .left) (at-most-joined .result) (at-most-joined .ensures) (at-if3 .taken)
 
 sub-result : tie.Need-sub-result
 sub-result c = search needs
@@ -37,7 +38,8 @@ returns-4 c =
     let at-if2 = c .before .before .if2 in
     let at-most-joined = c .before .most-joined in
     let at-if3 = c .if3 in
-    fits-rest (at-args .held .now) (at-args .first) (at-args .last) (at-args .bytes .now) (at-if1 .left) (at-if2 .left) (at-most-joined .result) (at-most-joined .ensures) (at-if3 .left)
+    fits-rest (at-args .held .now) (at-args .first) (at-args .last) (at-args .bytes .now)
+    (at-if1 .left) (at-if2 .left) (at-most-joined .result) (at-most-joined .ensures) (at-if3 .left)
 
 pub fits-spec : {M : Type 1} → statement M
 fits-spec =

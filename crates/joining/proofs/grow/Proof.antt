@@ -1,8 +1,8 @@
 use mathlib.Core.Path.{sym}
 use native.Mathlib.Omega.{arith}
 use lib.Seq.{length-take-le}
-use Rattle.joining.proofs.Growing.{inside, grows-whole, grows-part}
 use borrow.Author.Needs.{needs}
+use Rattle.joining.proofs.Growing.{inside, grows-whole, grows-part}
 use Rattle.joining.proofs.grow.Statement.{statement}
 use Rattle.joining.proofs.grow.Tie as tie
 
@@ -13,19 +13,23 @@ slice-reshare-prefix-write-entry : tie.Need-slice-reshare-prefix-write-entry
 slice-reshare-prefix-write-entry c =
     let at-args = c .before .before .before .before .before .args in
     let at-pre = c .before .before .before .before .before .pre in
-    let i = inside (at-args .part) (at-args .last) (at-args .bytes .now) (at-args .before) (at-args .hold .now) (at-args .list .now) (at-pre .0) (at-pre .1) in omega arith
+    let i = inside at-pre in
+    omega (arith, at-pre .hold-long)
 
 slice-aggregate-write-entry : tie.Need-slice-aggregate-write-entry
 slice-aggregate-write-entry c =
     let at-args = c .before .before .before .before .before .before .args in
     let at-pre = c .before .before .before .before .before .before .pre in
-    let i = inside (at-args .part) (at-args .last) (at-args .bytes .now) (at-args .before) (at-args .hold .now) (at-args .list .now) (at-pre .0) (at-pre .1) in sym (length-take-le (at-args .part) (at-args .hold .now) (omega arith))
+    let i = inside at-pre in
+    sym (length-take-le (at-args .part) (at-args .hold .now) (omega (arith, at-pre .hold-long)))
 
 write-entry-requires : tie.Need-write-entry-requires
 write-entry-requires c κs =
     let at-args = c .before .before .before .before .before .before .args in
     let at-pre = c .before .before .before .before .before .before .pre in
-    let i = inside (at-args .part) (at-args .last) (at-args .bytes .now) (at-args .before) (at-args .hold .now) (at-args .list .now) (at-pre .0) (at-pre .1) in let l = (length-take-le (at-args .part) (at-args .hold .now) (omega arith)) in (omega (arith, (at-pre .2)), omega arith)
+    let i = inside at-pre in
+    let l = length-take-le (at-args .part) (at-args .hold .now) (omega (arith, at-pre .hold-long)) in
+    (omega (arith, at-pre .room), omega arith)
 
 add-t17 : tie.Need-add-t17
 add-t17 c = search needs
@@ -48,13 +52,14 @@ returns c =
     let at-pre = c .before .before .before .before .before .before .before .before .before .pre in
     let at-if1 = c .before .before .before .before .before .if1 in
     let at-write-entry = c .before .before .write-entry in
-    grows-whole (at-args .part) (at-args .last) (at-args .bytes .now) (at-args .before) (at-args .hold .now) (at-args .list .now) (at-pre .0) (at-pre .1) _ (at-if1 .taken) (at-write-entry .ensures)
+    grows-whole at-pre _ (at-if1 .taken) (at-write-entry .ensures)
 
 write-at-requires : tie.Need-write-at-requires
 write-at-requires c κs =
     let at-args = c .before .before .before .before .before .args in
     let at-pre = c .before .before .before .before .before .pre in
-    let i = inside (at-args .part) (at-args .last) (at-args .bytes .now) (at-args .before) (at-args .hold .now) (at-args .list .now) (at-pre .0) (at-pre .1) in omega (arith, (at-pre .0))
+    let i = inside at-pre in
+    omega (arith, at-pre .hold-long)
 
 same-length-3 : tie.Need-same-length-3
 same-length-3 c = search needs
@@ -65,7 +70,7 @@ returns-2 c =
     let at-pre = c .before .before .before .before .before .before .before .before .pre in
     let at-if1 = c .before .before .before .before .if1 in
     let at-write-at = c .before .before .write-at in
-    grows-part (at-args .part) (at-args .last) (at-args .bytes .now) (at-args .before) (at-args .hold .now) (at-args .list .now) (at-pre .0) (at-pre .1) _ (at-if1 .left) (at-write-at .ensures)
+    grows-part at-pre _ (at-if1 .left) (at-write-at .ensures)
 
 pub grow-spec : {M : Type 1} → statement M
 grow-spec =

@@ -1,10 +1,9 @@
-use borrow.Author.Needs.{needs}
-use Rattle.joining.proofs.Reached.{Reached, begins, ready, goes-on, list-length, ends, not-against}
 use mathlib.Core.Path.{sym, _∙_}
 use Prim.Native.Nat.{_-_}
 use native.Mathlib.Omega.{arith}
+use borrow.Author.Needs.{needs}
 use Rattle.packing.proofs.Reading.{lies}
-use Rattle.joining.proofs.Reached.{Reached, begins, ready, goes-on, ends, not-against}
+use Rattle.joining.proofs.Reached.{Reached, begins, ready, goes-on, list-length, ends, not-against}
 use Rattle.joining.proofs.join.Statement.{statement}
 use Rattle.joining.proofs.join.Tie as tie
 
@@ -32,7 +31,10 @@ add-end c =
     let at-found = c .before .before .found in
     let at-args = c .before .before .before .before .before .before .before .before .before .args in
     let at-loop = c .before .before .before .before .before .loop in
-    let here = sym (at-record-at .ensures) ∙ (at-found .given .1) in let found = (at-found .given .0 .0) in let l = lies (at-args .area .now) (at-loop .at) found here in omega (arith, l .inside)
+    let here = sym (at-record-at .ensures) ∙ at-found .given .1 in
+    let found = at-found .given .0 .0 in
+    let l = lies (at-args .area .now) (at-loop .at) found here in
+    omega (arith, l .inside)
 
 sub-join-record : tie.Need-sub-join-record Inv-loop μ-loop
 sub-join-record c = search needs
@@ -46,7 +48,10 @@ part-join-record-end c =
     let at-found = c .before .before .found in
     let at-args = c .before .before .before .before .before .before .before .before .before .args in
     let at-loop = c .before .before .before .before .before .loop in
-    let here = sym (at-record-at .ensures) ∙ (at-found .given .1) in let found = (at-found .given .0 .0) in let l = lies (at-args .area .now) (at-loop .at) found here in omega (arith, l .inside)
+    let here = sym (at-record-at .ensures) ∙ at-found .given .1 in
+    let found = at-found .given .0 .0 in
+    let l = lies (at-args .area .now) (at-loop .at) found here in
+    omega (arith, l .inside)
 
 join-record-requires : tie.Need-join-record-requires Inv-loop μ-loop
 join-record-requires c κs =
@@ -54,7 +59,9 @@ join-record-requires c κs =
     let at-found = c .before .before .before .before .before .found in
     let at-loop = c .before .before .before .before .before .before .before .before .loop in
     let at-pre = c .before .before .before .before .before .before .before .before .before .before .before .before .pre in
-    let here = sym (at-record-at .ensures) ∙ (at-found .given .1) in let found = (at-found .given .0 .0) in ready (at-loop .inv) found here (at-pre .1) (at-pre .3)
+    let here = sym (at-record-at .ensures) ∙ at-found .given .1 in
+    let found = at-found .given .0 .0 in
+    ready (at-loop .inv) found here (at-pre .1) (at-pre .3)
 
 loop-less : tie.Need-loop-less Inv-loop μ-loop
 loop-less c =
@@ -62,7 +69,10 @@ loop-less c =
     let at-found = c .before .before .before .before .before .before .before .before .before .before .found in
     let at-args = c .before .before .before .before .before .before .before .before .before .before .before .before .before .before .before .before .before .args in
     let at-loop = c .before .before .before .before .before .before .before .before .before .before .before .before .before .loop in
-    let here = sym (at-record-at .ensures) ∙ (at-found .given .1) in let found = (at-found .given .0 .0) in let l = lies (at-args .area .now) (at-loop .at) found here in omega (arith, l .inside, l .start, (at-loop .inv .area-long))
+    let here = sym (at-record-at .ensures) ∙ at-found .given .1 in
+    let found = at-found .given .0 .0 in
+    let l = lies (at-args .area .now) (at-loop .at) found here in
+    omega (arith, l .inside, l .start, at-loop .inv .area-long)
 
 loop-again : tie.Need-loop-again Inv-loop μ-loop
 loop-again c =
@@ -71,7 +81,9 @@ loop-again c =
     let at-loop = c .before .before .before .before .before .before .before .before .before .before .before .before .before .loop in
     let at-join-record = c .before .before .before .before .join-record in
     let at-pre = c .before .before .before .before .before .before .before .before .before .before .before .before .before .before .before .before .before .pre in
-    let here = sym (at-record-at .ensures) ∙ (at-found .given .1) in let found = (at-found .given .0 .0) in goes-on (at-loop .inv) found here (at-join-record .result) _ _ (at-pre .1) (at-pre .3) (at-join-record .ensures)
+    let here = sym (at-record-at .ensures) ∙ at-found .given .1 in
+    let found = at-found .given .0 .0 in
+    goes-on (at-loop .inv) found here (at-join-record .result) _ _ (at-pre .1) (at-pre .3) (at-join-record .ensures)
 
 enum-told : tie.Need-enum-told Inv-loop μ-loop
 enum-told c = search needs
@@ -80,7 +92,7 @@ same-length : tie.Need-same-length Inv-loop μ-loop
 same-length c =
     let at-loop = c .before .before .before .loop in
     let at-pre = c .before .before .before .before .before .before .before .pre in
-    omega (arith, (at-loop .inv .hold-long), (at-pre .2))
+    omega (arith, at-loop .inv .hold-long, at-pre .2)
 
 same-length-2 : tie.Need-same-length-2 Inv-loop μ-loop
 same-length-2 c =
@@ -93,7 +105,8 @@ returns c =
     let at-record-at = c .before .before .record-at in
     let at-enum-told = c .enum-told in
     let at-loop = c .before .before .before .loop in
-    let here = sym (at-record-at .ensures) ∙ (at-enum-told .given .1) in ends (at-loop .inv) here
+    let here = sym (at-record-at .ensures) ∙ at-enum-told .given .1 in
+    ends (at-loop .inv) here
 
 enum-told-2 : tie.Need-enum-told-2 Inv-loop μ-loop
 enum-told-2 c = search needs
@@ -102,7 +115,7 @@ same-length-3 : tie.Need-same-length-3 Inv-loop μ-loop
 same-length-3 c =
     let at-loop = c .before .before .before .loop in
     let at-pre = c .before .before .before .before .before .before .before .pre in
-    omega (arith, (at-loop .inv .hold-long), (at-pre .2))
+    omega (arith, at-loop .inv .hold-long, at-pre .2)
 
 same-length-4 : tie.Need-same-length-4 Inv-loop μ-loop
 same-length-4 c =
@@ -115,7 +128,8 @@ returns-2 c =
     let at-record-at = c .before .before .record-at in
     let at-enum-told2 = c .enum-told2 in
     let at-loop = c .before .before .before .loop in
-    let here = sym (at-record-at .ensures) ∙ (at-enum-told2 .given .1) in absurd (not-against (at-loop .inv) here)
+    let here = sym (at-record-at .ensures) ∙ at-enum-told2 .given .1 in
+    absurd (not-against (at-loop .inv) here)
 
 pub join-spec : {M : Type 1} → statement M
 join-spec =

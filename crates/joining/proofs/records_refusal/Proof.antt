@@ -1,9 +1,9 @@
 use mathlib.Core.Path.{sym, _∙_}
 use native.Mathlib.Omega.{arith}
+use borrow.Author.Needs.{needs}
 use borrow.Author.Tests.{not-true, not-false}
 use Rattle.packing.proofs.Reading.{lies}
 use Rattle.joining.proofs.Refusals.{not-allowed, no-end, no-against, first-fits, first-too-long}
-use borrow.Author.Needs.{needs}
 use Rattle.joining.proofs.records_refusal.Statement.{statement}
 use Rattle.joining.proofs.records_refusal.Tie as tie
 
@@ -28,7 +28,10 @@ add-end c =
     let at-record-at = c .before .before .before .before .record-at in
     let at-found = c .before .before .found in
     let at-args = c .before .before .before .before .before .before .before .before .before .args in
-    let here = sym (at-record-at .ensures) ∙ (at-found .given .1) in let found = (at-found .given .0 .0) in let l = lies (at-args .area .now) 0 found here in omega (arith, l .inside)
+    let here = sym (at-record-at .ensures) ∙ at-found .given .1 in
+    let found = at-found .given .0 .0 in
+    let l = lies (at-args .area .now) 0 found here in
+    omega (arith, l .inside)
 
 sub-fits : tie.Need-sub-fits
 sub-fits c = search needs
@@ -41,7 +44,10 @@ part-fits-end c =
     let at-record-at = c .before .before .before .before .record-at in
     let at-found = c .before .before .found in
     let at-args = c .before .before .before .before .before .before .before .before .before .args in
-    let here = sym (at-record-at .ensures) ∙ (at-found .given .1) in let found = (at-found .given .0 .0) in let l = lies (at-args .area .now) 0 found here in omega (arith, l .inside)
+    let here = sym (at-record-at .ensures) ∙ at-found .given .1 in
+    let found = at-found .given .0 .0 in
+    let l = lies (at-args .area .now) 0 found here in
+    omega (arith, l .inside)
 
 fits-requires : tie.Need-fits-requires
 fits-requires c κs = search needs
@@ -55,7 +61,10 @@ returns-2 c =
     let at-if1 = c .before .before .before .before .before .before .before .before .if1 in
     let at-fits2 = c .before .fits2 in
     let at-if2 = c .if2 in
-    let here = sym (at-record-at .ensures) ∙ (at-found .given .1) in let found = (at-found .given .0 .0) in first-fits (at-args .held .now) (at-args .area .now) found (sym (at-is-allowed .ensures) ∙ not-false _ (at-if1 .left)) here _ (at-fits2 .ensures) (at-if2 .taken)
+    let here = sym (at-record-at .ensures) ∙ at-found .given .1 in
+    let found = at-found .given .0 .0 in
+    let allowed = sym (at-is-allowed .ensures) ∙ not-false _ (at-if1 .left) in
+    first-fits (at-args .held .now) (at-args .area .now) found allowed here _ (at-fits2 .ensures) (at-if2 .taken)
 
 enum-told : tie.Need-enum-told
 enum-told c = search needs
@@ -72,7 +81,10 @@ returns-3 c =
     let at-if1 = c .before .before .before .before .before .before .before .before .if1 in
     let at-fits2 = c .before .fits2 in
     let at-if2 = c .if2 in
-    let here = sym (at-record-at .ensures) ∙ (at-found .given .1) in let found = (at-found .given .0 .0) in first-too-long (at-args .held .now) (at-args .area .now) found (sym (at-is-allowed .ensures) ∙ not-false _ (at-if1 .left)) here _ (at-fits2 .ensures) (at-if2 .left)
+    let here = sym (at-record-at .ensures) ∙ at-found .given .1 in
+    let found = at-found .given .0 .0 in
+    let allowed = sym (at-is-allowed .ensures) ∙ not-false _ (at-if1 .left) in
+    first-too-long (at-args .held .now) (at-args .area .now) found allowed here _ (at-fits2 .ensures) (at-if2 .left)
 
 returns-4 : tie.Need-returns-4
 returns-4 c =
@@ -88,7 +100,8 @@ returns-5 c =
     let at-if1 = c .before .before .before .if1 in
     let at-record-at = c .before .before .record-at in
     let at-enum-told2 = c .enum-told2 in
-    no-against (at-args .held .now) (at-args .area .now) (sym (at-is-allowed .ensures) ∙ not-false _ (at-if1 .left)) (sym (at-record-at .ensures) ∙ (at-enum-told2 .given .1))
+    let allowed = sym (at-is-allowed .ensures) ∙ not-false _ (at-if1 .left) in
+    no-against (at-args .held .now) (at-args .area .now) allowed (sym (at-record-at .ensures) ∙ (at-enum-told2 .given .1))
 
 pub records-refusal-spec : {M : Type 1} → statement M
 records-refusal-spec =

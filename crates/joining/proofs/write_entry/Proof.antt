@@ -1,9 +1,9 @@
 use mathlib.Core.Path.{ap, _∙_}
 use Prim.Native.Nat.{_+_}
 use lib.ListN.{length}
+use borrow.Author.Needs.{needs}
 use Rattle.lent.specs.Written.{written}
 use Rattle.joining.proofs.Growing.{entry-written}
-use borrow.Author.Needs.{needs}
 use Rattle.joining.proofs.write_entry.Statement.{statement}
 use Rattle.joining.proofs.write_entry.Tie as tie
 
@@ -45,7 +45,13 @@ returns c =
     let at-write-at = c .before .before .before .before .before .before .before .before .before .before .write-at in
     let at-bytes-of = c .before .before .before .before .before .before .before .before .before .before .before .before .before .bytes-of in
     let at-pre = c .before .before .before .before .before .before .before .before .before .before .before .before .before .before .before .before .before .pre in
-    (at-write-at3 .ensures) ∙ ap (λ l. written l ((at-args .at) + 2 + length (at-args .held .now)) (at-args .rest .now)) ((at-write-at2 .ensures) ∙ ap (λ l. written l ((at-args .at) + 2) (at-args .held .now)) ((at-write-at .ensures) ∙ ap (λ l. written (at-args .list .now) (at-args .at) l) (at-bytes-of .ensures))) ∙ entry-written (at-args .list .now) (at-args .at) (at-args .held .now) (at-args .rest .now) (at-pre .0)
+    let list = at-args .list .now in
+    let at = at-args .at in
+    let held = at-args .held .now in
+    let rest = at-args .rest .now in
+    let mark = at-write-at .ensures ∙ ap (λ l. written list at l) (at-bytes-of .ensures) in
+    let front = at-write-at2 .ensures ∙ ap (λ l. written l (at + 2) held) mark in
+    at-write-at3 .ensures ∙ ap (λ l. written l (at + 2 + length held) rest) front ∙ entry-written list at held rest (at-pre .0)
 
 pub write-entry-spec : {M : Type 1} → statement M
 write-entry-spec =
