@@ -1,7 +1,6 @@
 -- Building the next frame (01, "Next frame"), for all inputs. A refusal's number is 0 where nothing is refused (01, "Refusal numbers").
 use mathlib.Core.Path.{_≡_}
 use mathlib.Core.Bool.{cond, _&&_}
-use mathlib.Core.Option.{Option, none, some}
 use mathlib.Core.List.{List}
 use Prim.Native.Nat.{ℕ}
 use lib.Dec.{eqb, leb}
@@ -9,9 +8,9 @@ use lib.ListN.{length, take}
 use Rattle.basics.specs.Lists.{zeros}
 use Rattle.lent.specs.Outcome.{by}
 use Rattle.lent.specs.Written.{written}
-use Rattle.link.specs.Link.{Queue, empty, cut}
+use Rattle.link.specs.Link.{Queue, cut}
 use Rattle.link.specs.Packing.{busy}
-use Rattle.link.specs.Store.{layout, parse}
+use Rattle.link.specs.Store.{layout}
 use Rattle.packing.specs.Filling.{load, area}
 use Rattle.scrambler.specs.Scrambler.{tapsAllowed}
 use Rattle.basics.specs.Counts.{nextTxfn}
@@ -21,7 +20,7 @@ use Rattle.header.specs.declared.FrameKind.{FrameKind}
 use Rattle.header.specs.declared.FrameKind.the-variants.{Idle, Data}
 use Rattle.header.specs.declared.Header.{Header}
 use Rattle.frame.specs.Frame.{frameBytes}
-use Rattle.marks.specs.Queue.{isUsedWhole}
+use Rattle.marks.specs.Queue.{isUsedWhole, queueIn}
 use Rattle.sender.specs.declared.Sender.{Sender}
 use Rattle.sender.specs.declared.NextAnswer.{NextAnswer}
 use Rattle.sender.specs.declared.NextAnswer.the-variants.{Sent, Refused}
@@ -49,14 +48,6 @@ senderAfter sender queue = record { used = length (layout (leftIn queue)); next 
 
 -- ---------------------------------------------------------------- the call
 
--- the queue that bytes stand for; where they stand for none the call is refused, and the empty one is not used
-abbrev pub orEmpty : Option Queue → Queue
-orEmpty none = empty
-orEmpty (some queue) = queue
-
-unfoldable pub queueIn : List ℕ → Queue
-queueIn bytes = orEmpty (parse bytes)
-
 -- the lowest number that applies, 0 for none
 unfoldable pub nextRefusal : ℕ → Fields → ℕ → List ℕ → List ℕ → ℕ
 nextRefusal taps fields used queue out =
@@ -64,6 +55,14 @@ nextRefusal taps fields used queue out =
     (cond (eqb (length queue) 32768 && leb 2081 (length out))
     (cond (isUsedWhole queue used)
     (cond (fieldsFit fields) 0 6) 3) 2) 1
+
+-- The paper's number for each case of the answer, and the case for a number: `next-numbers` in proofs/Sending.antt ties the two.
+abbrev pub nextNumber : NextAnswer → ℕ
+nextNumber (Sent sender kind) = 0
+nextNumber (Refused number) = number
+
+abbrev pub nextAnswer : ℕ → Sender → FrameKind → NextAnswer
+nextAnswer number sender kind = by number (Sent sender kind) (Refused number)
 
 module _ (taps : ℕ) (fields : Fields) (sender : Sender) (queue out : List ℕ) where
   abbrev number : ℕ
@@ -75,6 +74,6 @@ module _ (taps : ℕ) (fields : Fields) (sender : Sender) (queue out : List ℕ)
   -- The whole outcome of `next_frame`: the answer, and the bytes of the queue and of out. What remains moves to the front of the queue, and the frame is written to
   -- the front of out; all other bytes keep their values.
   pub record NextOutcome (r : NextAnswer) (queue′ out′ : List ℕ) : Type 0 where
-    pub answer : r ≡ by number (Sent (senderAfter sender waiting) (kindFor waiting)) (Refused number)
+    pub answer : r ≡ nextAnswer number (senderAfter sender waiting) (kindFor waiting)
     pub bytes : queue′ ≡ by number (written queue 0 (layout (leftIn waiting))) queue
     pub frame : out′ ≡ by number (written out 0 (frameBytes taps (headerFor sender fields waiting) (areaFor waiting))) out

@@ -1,0 +1,5 @@
+pub mod Refusals
+pub mod Growing
+pub mod Pieces
+pub mod Reached
+pub mod Laws
