@@ -23,10 +23,11 @@ use Rattle.frame.specs.declared.OpenAnswer.{OpenAnswer}
 use Rattle.frame.specs.declared.OpenAnswer.the-variants.{Opened}
 use Rattle.link.specs.Link.{Piece, Queue, cut, fits, missed, heldAfter}
 use Rattle.link.specs.Packing.{busy}
+use Rattle.marks.specs.Queue.{queueIn}
 use Rattle.packing.specs.Rules.{Allowed}
 use Rattle.packing.specs.Filling.{load}
 use Rattle.packing.specs.Reading.{read}
-use Rattle.sender.specs.Next.{queueIn, NextOutcome}
+use Rattle.sender.specs.Next.{NextOutcome}
 use Rattle.sender.specs.declared.Sender.{Sender}
 use Rattle.sender.specs.declared.NextAnswer.the-variants.{Sent}
 use Rattle.receiver.specs.Applying.{expectedNumber, isData}

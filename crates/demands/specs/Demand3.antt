@@ -14,9 +14,10 @@ use Rattle.frame.specs.Opening.{openedHeader, openedArea}
 use Rattle.link.specs.Link.{Packet, Piece, Queue, Answer, taken, refused}
 use Rattle.link.specs.Ledger.{Mark, lost, accepted, Limit}
 use Rattle.link.specs.Demand3.{Demand3}
+use Rattle.marks.specs.Queue.{queueIn}
 use Rattle.joining.specs.Joining.{orNone}
 use Rattle.sender.specs.Put.{freshSender, PutOutcome}
-use Rattle.sender.specs.Next.{queueIn, NextOutcome}
+use Rattle.sender.specs.Next.{NextOutcome}
 use Rattle.sender.specs.declared.Sender.{Sender}
 use Rattle.sender.specs.declared.PutAnswer.{PutAnswer}
 use Rattle.sender.specs.declared.PutAnswer.the-variants as put
