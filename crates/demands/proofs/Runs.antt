@@ -1,5 +1,6 @@
--- Demand 3 speaks of runs that matter: for all allowed taps, all header fields that may be sent and all first contents of the buffers, every list of calls whose packets find room is
--- answered with yes, call by call, and makes a history with every fate of its frames, missing, damaged or arriving, within the limit.
+-- Demand 3 speaks of runs that matter: for all allowed taps, all header fields that may be sent and all first contents of the buffers, every list of calls
+-- whose packets find room is answered with yes, call by call, and makes a history with every fate of its frames, missing, damaged or arriving, within the
+-- limit.
 use mathlib.Core.Path.{_≡_, refl, ap, _∙_}
 use mathlib.Core.Bool.{Bool, true, false, cond}
 use mathlib.Core.Option.{Option, none, some}

@@ -1,6 +1,6 @@
--- DEMAND 1: every call takes all inputs, ends, and answers or refuses by a number from the table; a refusal returns that number only, and changes no state and no byte of a lent buffer.
--- That a call takes all inputs and ends is shown by its having no `requires` and being proved. Here: what its contract says. A state is given and returned by value, and a refusal's answer
--- holds its number alone. `every-call-holds` in proofs/Demand1.antt is the proof.
+-- DEMAND 1: every call takes all inputs, ends, and answers or refuses by a number from the table; a refusal returns that number only, and changes no state
+-- and no byte of a lent buffer. That a call takes all inputs and ends is shown by its having no `requires` and being proved. Here: what its contract says. A
+-- state is given and returned by value, and a refusal's answer holds its number alone. `every-call-holds` in proofs/Demand1.antt is the proof.
 use mathlib.Core.Path.{_≡_}
 use mathlib.Core.Bool.{Bool, true, false, _||_}
 use mathlib.Core.List.{List, [], _∷_}
@@ -65,8 +65,8 @@ codeNumbers = 2 ∷ 6 ∷ []
 abbrev pub readNumbers : List ℕ
 readNumbers = 2 ∷ 9 ∷ 10 ∷ 11 ∷ []
 
--- A call with its inputs: the outcomes (an answer, and what the lent buffers hold after it) that its contract admits, what they held before, which answers refuse with which number, and the
--- numbers of the call.
+-- A call with its inputs: the outcomes (an answer, and what the lent buffers hold after it) that its contract admits, what they held before, which answers
+-- refuse with which number, and the numbers of the call.
 pub record Demand1 {Answer Lent : Type 0} (Outcome : Answer → Lent → Type 0) (before : Lent) (Refuses : Answer → ℕ → Type 0) (numbers : List ℕ) : Type 0 where
   -- there is an answer, ..
   pub answered : (answer : Answer) × ((after : Lent) × Outcome answer after)
