@@ -1,10 +1,9 @@
 -- DEMAND 2 holds: the theorems of header, area and frame, what next_frame sends and what receive accepts.
 use mathlib.Core.Path.{_≡_, refl, sym, ap, _∙_}
-use mathlib.Core.Logic.{_↔_}
 use mathlib.Core.Bool.{Bool, true, false, cond}
 use mathlib.Core.Option.{Option, none, some}
 use mathlib.Core.List.{List, []}
-use Prim.Native.Nat.{ℕ, _+_, _≤_, _<_}
+use Prim.Native.Nat.{ℕ, _+_, _<_}
 use native.Mathlib.Omega.{arith}
 use lib.Dec.{eqb}
 use lib.ListN.{length, take, drop}
@@ -21,7 +20,6 @@ use Rattle.scrambler.proofs.Laws.{scrambled-bytes}
 use Rattle.header.specs.Header.{headerFits, fieldsFit}
 use Rattle.header.specs.declared.Fields.{Fields}
 use Rattle.header.specs.declared.FrameKind.{FrameKind}
-use Rattle.header.specs.declared.FrameKind.the-variants.{Idle, Data}
 use Rattle.header.specs.declared.Header.{Header}
 use Rattle.header.proofs.Theorems.{read-of-coded, coded-of-read}
 use Rattle.frame.specs.Frame.{frameBytes}
@@ -35,17 +33,18 @@ use Rattle.link.specs.Link as link
 use Rattle.link.specs.Link.{Piece, Queue, IsQueue, Cut, cut, fits, missed, heldAfter, receive}
 use Rattle.link.specs.Packing.{busy, receiveRead}
 use Rattle.link.proofs.RoundTrip.{parse-queue}
+use Rattle.marks.specs.Queue.{queueIn}
+use Rattle.marks.proofs.Parsed.{whole-parsed}
 use Rattle.packing.specs.Rules.{Allowed}
 use Rattle.packing.specs.Filling.{fill, load}
 use Rattle.packing.specs.Reading.{read}
 use Rattle.packing.proofs.Allowed.{read-iff, read-allowed, allowed-read}
 use Rattle.packing.proofs.Filling.{fill-cut}
 use Rattle.packing.proofs.Bench.{area-allowed}
-use Rattle.sender.specs.Next.{kindFor, areaFor, headerFor, senderAfter, queueIn, nextRefusal, NextOutcome}
+use Rattle.sender.specs.Next.{kindFor, areaFor, headerFor, senderAfter, nextRefusal, NextOutcome}
 use Rattle.sender.specs.declared.Sender.{Sender}
 use Rattle.sender.specs.declared.NextAnswer.the-variants.{Sent, Refused}
 use Rattle.sender.proofs.Sending.{next-passed}
-use Rattle.sender.proofs.Taking.{whole-parsed}
 use Rattle.receiver.specs.Applying.{standing, isData, piecesOf, received, numberOf, buffersRefusal}
 use Rattle.receiver.specs.Receiving.{argumentRefusal, frameRefusal, receiveRefusal}
 use Rattle.receiver.specs.declared.Receiver.{Receiver}

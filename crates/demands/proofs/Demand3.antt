@@ -1,18 +1,18 @@
 -- DEMAND 3 holds of every history of the calls.
-use mathlib.Core.Path.{_≡_, sym}
+use mathlib.Core.Path.{_≡_}
 use mathlib.Core.Option.{none}
-use mathlib.Core.List.{List, map}
+use mathlib.Core.List.{List}
 use Prim.Native.Nat.{ℕ}
 use native.Mathlib.Nat.{zero-add}
-use Rattle.link.specs.Link.{ArePackets, Piece, empty, putsOf, framesOf, queueAfter, fresh}
-use Rattle.link.specs.Demand3.{Demand3, deliver}
+use Rattle.link.specs.Link.{ArePackets, Piece, empty, putsOf, framesOf, fresh}
+use Rattle.link.specs.Demand3.{deliver}
 use Rattle.link.proofs.Demand3.{demand3}
 use Rattle.link.proofs.Sender.{run}
 use Rattle.packing.specs.Filling.{load}
 use Rattle.sender.specs.Put.{freshSender}
 use Rattle.sender.proofs.Stands.{fresh-stands}
 use Rattle.receiver.specs.Applying.{freshReceiver}
-use Rattle.demands.specs.Demand3.{SenderCall, packetsPut, framesSent, queueLeft, piecesCarried, Fate, marks, learned, History, Promise}
+use Rattle.demands.specs.Demand3.{SenderCall, framesSent, Fate, marks, learned, History, Promise}
 use Rattle.demands.proofs.Sender.{granted, Sound, fresh-sound, all-carried}
 use Rattle.demands.proofs.Receiver.{fresh-holds, hears}
 

@@ -1,6 +1,7 @@
--- A worked history, for all allowed taps, all header fields that may be sent and all first contents of the buffers. An empty packet is refused with 4. Packets of 1, 1,904, 1 and 1 bytes are
--- taken, and four frames are sent. Frame 0 arrives, with the first packet and all of the second but its last byte; frame 1 is missing, with that byte; frame 2 comes as zeros and is refused;
--- frame 3 arrives. The first packet and the last come out, and two frames are counted as missed before frame 3.
+-- A worked history, for all allowed taps, all header fields that may be sent and all first contents of the buffers. An empty packet is refused with 4.
+-- Packets of 1, 1,904, 1 and 1 bytes are taken, and four frames are sent. Frame 0 arrives, with the first packet and all of the second but its last byte;
+-- frame 1 is missing, with that byte; frame 2 comes as zeros and is refused; frame 3 arrives. The first packet and the last come out, and two frames are
+-- counted as missed before frame 3.
 use mathlib.Core.Path.{_≡_, refl, ap, _∙_}
 use mathlib.Core.Bool.{true}
 use mathlib.Core.List.{List, [], _∷_, map}

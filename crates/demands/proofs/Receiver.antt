@@ -1,7 +1,7 @@
 -- The receiver's half of a history: what `receive` does with a frame that carries pieces is what `Link` says of these pieces.
 use mathlib.Core.Path.{_≡_, refl, ap, sym, _∙_}
 use mathlib.Core.Bool.{Bool, true, false, cond}
-use mathlib.Core.Option.{Option, none, some}
+use mathlib.Core.Option.{some}
 use mathlib.Core.List.{List, [], _∷_}
 use Prim.Native.Nat.{ℕ, suc, _+_, _%_, _≤_}
 use native.Mathlib.Nat.{add-zero, add-suc, suc-add}
@@ -11,7 +11,6 @@ use borrow.Author.Tests.{eq-eqb, le-leb}
 use Rattle.basics.specs.Lists.{zeros}
 use Rattle.basics.specs.Counts.{nextTxfn}
 use Rattle.basics.proofs.Lists.{zeros-length}
-use Rattle.lent.specs.Outcome.{by}
 use Rattle.lent.specs.Written.{written}
 use Rattle.lent.proofs.Outcome.{accepted, refused, kept}
 use Rattle.lent.proofs.Written.{written-length}
@@ -20,9 +19,9 @@ use Rattle.header.specs.declared.Header.{Header}
 use Rattle.frame.specs.Opening.{openRefusal, openedHeader, openedArea}
 use Rattle.frame.proofs.Built.{built-accepted}
 use Rattle.link.specs.Link as link
-use Rattle.link.specs.Link.{Packet, ArePackets, Piece, onPieces, fits, missed, heldAfter, receiveWith, receive, Answer}
-use Rattle.link.specs.Ledger.{Mark, lost}
-use Rattle.link.specs.Packing.{Opened, receiveRead}
+use Rattle.link.specs.Link.{Packet, Piece, onPieces, fits, missed, heldAfter, receive, Answer}
+use Rattle.link.specs.Ledger.{Mark}
+use Rattle.link.specs.Packing.{receiveRead}
 use Rattle.link.specs.Demand3.{deliver}
 use Rattle.link.proofs.Hold.{Shape, receive-bound, out-packets}
 use Rattle.link.proofs.Reassembly.{Filled, AllFilled}
@@ -33,7 +32,6 @@ use Rattle.joining.specs.Joining.{listBytes}
 use Rattle.receiver.specs.Applying.{freshReceiver, standing, received, numberOf, missedOf, packetsOf, receiverAfter, listOf, buffersRefusal}
 use Rattle.receiver.specs.Receiving.{argumentRefusal, frameRefusal, receiveRefusal, ReceiveOutcome}
 use Rattle.receiver.specs.declared.Receiver.{Receiver}
-use Rattle.receiver.specs.declared.Expected.the-variants.{Frame}
 use Rattle.receiver.specs.declared.ReceiveAnswer.{ReceiveAnswer}
 use Rattle.receiver.specs.declared.ReceiveAnswer.the-variants as answer
 use Rattle.list.specs.Reading.{packetsRead}

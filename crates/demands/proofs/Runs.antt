@@ -1,6 +1,7 @@
--- Demand 3 speaks of runs that matter: for all allowed taps, all header fields that may be sent and all first contents of the buffers, every list of calls whose packets find room is
--- answered with yes, call by call, and makes a history with every fate of its frames, missing, damaged or arriving, within the limit.
-use mathlib.Core.Path.{_≡_, refl, sym, ap, _∙_}
+-- Demand 3 speaks of runs that matter: for all allowed taps, all header fields that may be sent and all first contents of the buffers, every list of calls
+-- whose packets find room is answered with yes, call by call, and makes a history with every fate of its frames, missing, damaged or arriving, within the
+-- limit.
+use mathlib.Core.Path.{_≡_, refl, ap, _∙_}
 use mathlib.Core.Bool.{Bool, true, false, cond}
 use mathlib.Core.Option.{Option, none, some}
 use mathlib.Core.List.{List, [], _∷_}
@@ -21,27 +22,27 @@ use Rattle.frame.specs.Frame.{preamble, frameBytes}
 use Rattle.frame.specs.Opening.{openRefusal, outerRefusal, innerRefusal, unscrambled, openedHeader, openedArea}
 use Rattle.frame.proofs.Laws.{both-zero, outer-passed}
 use Rattle.link.specs.Link as link
-use Rattle.link.specs.Link.{Packet, IsPacket, Queue, empty, withPacket, Cut, pieceThen, cutPacket, cutWaiting, cutRest, cutFrom, cut, Call}
-use Rattle.link.specs.Ledger.{Mark, lost, accepted as isAccepted, Limit}
-use Rattle.link.specs.Store.{marked, layout, parse, isSome, isWhole, packetsIn}
+use Rattle.link.specs.Link.{Packet, IsPacket, Queue, empty, withPacket, pieceThen, cutPacket, cutWaiting, cutRest, cutFrom, cut, Call}
+use Rattle.link.specs.Ledger.{accepted as isAccepted, Limit}
+use Rattle.link.specs.Store.{marked, layout, parse, isSome, isWhole}
 use Rattle.link.proofs.Store.{usedRest, usedWaiting, length-layout, put-lays}
 use Rattle.packing.specs.Filling.{load}
-use Rattle.marks.specs.Queue.{isUsedWhole}
+use Rattle.marks.specs.Queue.{isUsedWhole, queueIn}
+use Rattle.marks.proofs.Parsed.{queue-is}
 use Rattle.sender.specs.Put.{freshSender, putRefusal, putSender, putBytes, PutOutcome}
-use Rattle.sender.specs.Next.{kindFor, areaFor, headerFor, leftIn, senderAfter, queueIn, nextRefusal, NextOutcome}
+use Rattle.sender.specs.Next.{kindFor, areaFor, headerFor, leftIn, senderAfter, nextRefusal, NextOutcome}
 use Rattle.sender.specs.declared.Sender.{Sender}
 use Rattle.sender.specs.declared.PutAnswer.the-variants as putting
 use Rattle.sender.specs.declared.NextAnswer.the-variants as sending
 use Rattle.sender.proofs.Stands.{Stands, fresh-stands}
 use Rattle.sender.proofs.Putting.{put-stands}
 use Rattle.sender.proofs.Carried.{next-stands}
-use Rattle.receiver.specs.Applying.{freshReceiver, received, numberOf}
+use Rattle.receiver.specs.Applying.{received, numberOf}
 use Rattle.receiver.specs.Receiving.{argumentRefusal, frameRefusal, receiveRefusal, ReceiveOutcome}
 use Rattle.receiver.specs.declared.Receiver.{Receiver}
 use Rattle.receiver.specs.declared.ReceiveAnswer.the-variants as receiving
-use Rattle.demands.specs.Demand3.{SenderCall, callPut, callNext, SenderCalls, framesSent, Fate, missing, arrives, damaged, receiveLeaves, ReceiverCalls, marks, History}
+use Rattle.demands.specs.Demand3.{SenderCall, callPut, callNext, SenderCalls, Fate, missing, arrives, damaged, receiveLeaves, ReceiverCalls, marks}
 use Rattle.demands.proofs.Demand1.{every-call-holds}
-use Rattle.demands.proofs.Sender.{queue-is}
 
 -- ---- what a frame leaves takes no more bytes than there were
 
@@ -168,7 +169,7 @@ module _ (taps : ℕ) (allowed : tapsAllowed taps ≡ true) (fields : Fields) (f
     next-ready : Ready (senderAfter sender waiting) queue′ (suc i) (cut (load q) q .left)
     next-ready =
         let left-is : length (layout (leftIn waiting)) ≡ length (layout (cut (load q) q .left)) =
-        ap (λ (w : Queue). length (layout (leftIn w))) (queue-is taps (take (sender .used) queue) q (r .stands .parsed)) in
+        ap (λ (w : Queue). length (layout (leftIn w))) (queue-is (take (sender .used) queue) q (r .stands .parsed)) in
         let less = left-no-longer (load q) q in
         record {
           stands = next-stands taps fields sender queue out (senderAfter sender waiting) (kindFor waiting) queue′ out′ i q next-yes (r .stands) .1;

@@ -1,11 +1,10 @@
 -- The sender's half of a history: the frames that it sends carry the pieces that are cut from the queue, frame by frame.
-use mathlib.Core.Path.{_≡_, refl, ap, sym, _∙_}
+use mathlib.Core.Path.{_≡_, refl, ap, _∙_}
 use mathlib.Core.Bool.{Bool, true, false, cond}
 use mathlib.Core.Option.{some}
 use mathlib.Core.List.{List, [], _∷_, map}
 use Prim.Native.Nat.{ℕ, suc, _%_}
 use lib.ListN.{take}
-use Rattle.basics.specs.Lists.{Bytes}
 use Rattle.header.specs.declared.Fields.{Fields}
 use Rattle.header.specs.declared.FrameKind.{FrameKind}
 use Rattle.header.specs.declared.FrameKind.the-variants.{Idle, Data}
@@ -15,19 +14,19 @@ use Rattle.frame.proofs.Built.{built-header, built-area}
 use Rattle.link.specs.Link.{Packet, ArePackets, Piece, Queue, IsQueue, empty, withPacket, cut, Call, putsOf, framesOf, queueAfter}
 use Rattle.link.specs.Link as link
 use Rattle.link.specs.Packing.{Opened, frameFor, piecesIn}
-use Rattle.link.specs.Store.{parse}
 use Rattle.link.proofs.Packing.{frame-pieces}
 use Rattle.link.proofs.Sender.{put-queue, cut-queue}
+use Rattle.marks.proofs.Parsed.{queue-is}
 use Rattle.packing.specs.Filling.{load}
 use Rattle.packing.specs.Reading.{read}
 use Rattle.packing.proofs.Bench.{bench}
 use Rattle.joining.specs.Joining.{orNone}
 use Rattle.sender.specs.Put.{PutOutcome}
-use Rattle.sender.specs.Next.{orEmpty, queueIn, NextOutcome}
+use Rattle.sender.specs.Next.{NextOutcome}
 use Rattle.sender.specs.declared.Sender.{Sender}
 use Rattle.sender.specs.declared.PutAnswer.the-variants as put
 use Rattle.sender.specs.declared.NextAnswer.the-variants as next
-use Rattle.sender.proofs.Stands.{Stands, fresh-stands}
+use Rattle.sender.proofs.Stands.{Stands}
 use Rattle.sender.proofs.Putting.{put-stands}
 use Rattle.sender.proofs.Carried.{Carries, next-stands}
 use Rattle.receiver.specs.Applying.{piecesOf}
@@ -107,10 +106,6 @@ module _ (taps : ℕ) where
   bench-pieces : (q : Queue) → IsQueue q → piecesIn bench (frameFor bench q) ≡ some (cut (load q) q .pieces)
   unfolding bench
   bench-pieces q k = frame-pieces bench q k
-
-  pub queue-is : (bytes : List ℕ) (queue : Queue) → parse bytes ≡ some queue → queueIn bytes ≡ queue
-  unfolding queueIn
-  queue-is bytes queue e = ap orEmpty e
 
   pub record Sound (i : ℕ) (q : Queue) (sender : Sender) (queue : List ℕ) (calls : List SenderCall) : Type 0 where
     pub carried : AllSend i (framesSent calls) (framesOf load q (granted calls))

@@ -1,6 +1,6 @@
--- DEMAND 1: every call takes all inputs, ends, and answers or refuses by a number from the table; a refusal returns that number only, and changes no state and no byte of a lent buffer.
--- That a call takes all inputs and ends is shown by its having no `requires` and being proved. Here: what its contract says. A state is given and returned by value, and a refusal's answer
--- holds its number alone. `every-call-holds` in proofs/Demand1.antt is the proof.
+-- DEMAND 1: every call takes all inputs, ends, and answers or refuses by a number from the table; a refusal returns that number only, and changes no state
+-- and no byte of a lent buffer. That a call takes all inputs and ends is shown by its having no `requires` and being proved. Here: what its contract says. A
+-- state is given and returned by value, and a refusal's answer holds its number alone. `every-call-holds` in proofs/Demand1.antt is the proof.
 use mathlib.Core.Path.{_≡_}
 use mathlib.Core.Bool.{Bool, true, false, _||_}
 use mathlib.Core.List.{List, [], _∷_}
@@ -40,8 +40,33 @@ abbrev pub among : ℕ → List ℕ → Bool
 among number [] = false
 among number (n ∷ numbers) = eqb number n || among number numbers
 
--- A call with its inputs: the outcomes (an answer, and what the lent buffers hold after it) that its contract admits, what they held before, which answers refuse with which number, and the
--- numbers of the call.
+-- the numbers of each call (01, "Refusal numbers")
+abbrev pub putNumbers : List ℕ
+putNumbers = 2 ∷ 3 ∷ 4 ∷ 5 ∷ []
+
+abbrev pub nextNumbers : List ℕ
+nextNumbers = 1 ∷ 2 ∷ 3 ∷ 6 ∷ []
+
+abbrev pub receiveNumbers : List ℕ
+receiveNumbers = 1 ∷ 2 ∷ 3 ∷ 7 ∷ 8 ∷ 9 ∷ 10 ∷ 11 ∷ 12 ∷ 13 ∷ 14 ∷ 15 ∷ []
+
+abbrev pub openNumbers : List ℕ
+openNumbers = 1 ∷ 2 ∷ 7 ∷ 8 ∷ 9 ∷ 10 ∷ 11 ∷ 12 ∷ 13 ∷ []
+
+abbrev pub applyNumbers : List ℕ
+applyNumbers = 2 ∷ 3 ∷ 14 ∷ 15 ∷ []
+
+abbrev pub entryNumbers : List ℕ
+entryNumbers = 16 ∷ []
+
+abbrev pub codeNumbers : List ℕ
+codeNumbers = 2 ∷ 6 ∷ []
+
+abbrev pub readNumbers : List ℕ
+readNumbers = 2 ∷ 9 ∷ 10 ∷ 11 ∷ []
+
+-- A call with its inputs: the outcomes (an answer, and what the lent buffers hold after it) that its contract admits, what they held before, which answers
+-- refuse with which number, and the numbers of the call.
 pub record Demand1 {Answer Lent : Type 0} (Outcome : Answer → Lent → Type 0) (before : Lent) (Refuses : Answer → ℕ → Type 0) (numbers : List ℕ) : Type 0 where
   -- there is an answer, ..
   pub answered : (answer : Answer) × ((after : Lent) × Outcome answer after)
@@ -50,30 +75,30 @@ pub record Demand1 {Answer Lent : Type 0} (Outcome : Answer → Lent → Type 0)
   -- a refusal's number is one of the call's, and every lent byte is as it was
   pub refusal : (answer : Answer) (number : ℕ) (after : Lent) → Outcome answer after → Refuses answer number → (among number numbers ≡ true) × (after ≡ before)
 
--- The calls, each with all its inputs, and their numbers (01, "Refusal numbers").
+-- The calls, each with all its inputs.
 pub record EveryCall : Type 0 where
   pub put : (queue : List ℕ) (sender : Sender) (packet : List ℕ)
-      → Demand1 {Answer = PutAnswer} (PutOutcome queue sender packet) queue (λ answer number. answer ≡ putting.Refused number) (2 ∷ 3 ∷ 4 ∷ 5 ∷ [])
+      → Demand1 {Answer = PutAnswer} (PutOutcome queue sender packet) queue (λ answer number. answer ≡ putting.Refused number) putNumbers
   pub next-frame : (taps : ℕ) (fields : Fields) (sender : Sender) (queue out : List ℕ)
       → Demand1 {Answer = NextAnswer} {Lent = List ℕ × List ℕ} (λ answer after. NextOutcome taps fields sender queue out answer (after .0) (after .1)) (queue, out)
-      (λ answer number. answer ≡ sending.Refused number) (1 ∷ 2 ∷ 3 ∷ 6 ∷ [])
+      (λ answer number. answer ≡ sending.Refused number) nextNumbers
   pub receive : (taps : ℕ) (frame : List ℕ) (receiver : Receiver) (hold list : List ℕ)
       → Demand1 {Answer = ReceiveAnswer} {Lent = List ℕ × List ℕ} (λ answer after. ReceiveOutcome taps frame receiver hold list answer (after .0) (after .1)) (hold, list)
-      (λ answer number. answer ≡ receiving.Refused number) (1 ∷ 2 ∷ 3 ∷ 7 ∷ 8 ∷ 9 ∷ 10 ∷ 11 ∷ 12 ∷ 13 ∷ 14 ∷ 15 ∷ [])
+      (λ answer number. answer ≡ receiving.Refused number) receiveNumbers
   -- the two halves of receiving
   pub open-frame : (taps : ℕ) (frame area : List ℕ)
-      → Demand1 {Answer = OpenAnswer} (OpenOutcome taps frame area) area (λ answer number. answer ≡ opening.Refused number) (1 ∷ 2 ∷ 7 ∷ 8 ∷ 9 ∷ 10 ∷ 11 ∷ 12 ∷ 13 ∷ [])
+      → Demand1 {Answer = OpenAnswer} (OpenOutcome taps frame area) area (λ answer number. answer ≡ opening.Refused number) openNumbers
   pub apply : (header : Header) (area : List ℕ) (receiver : Receiver) (hold list : List ℕ)
       → Demand1 {Answer = ApplyAnswer} {Lent = List ℕ × List ℕ} (λ answer after. ApplyOutcome header area receiver hold list answer (after .0) (after .1)) (hold, list)
-      (λ answer number. answer ≡ applying.Refused number) (2 ∷ 3 ∷ 14 ∷ 15 ∷ [])
+      (λ answer number. answer ≡ applying.Refused number) applyNumbers
   -- nothing is written by the calls below, but for code_header
   pub entry : (list : List ℕ) (position : ℕ)
-      → Demand1 {Answer = EntryAnswer} {Lent = Unit {0}} (λ answer after. answer ≡ entryAnswer list position) tt (λ answer number. answer ≡ listing.Refused number) (16 ∷ [])
+      → Demand1 {Answer = EntryAnswer} {Lent = Unit {0}} (λ answer after. answer ≡ entryAnswer list position) tt (λ answer number. answer ≡ listing.Refused number) entryNumbers
   -- the bytes handed back and where they stand; an empty part at a refusal
   pub packet : (list : List ℕ) (from : ℕ × ℕ) (position : ℕ)
       → Demand1 {Answer = List ℕ × (ℕ × ℕ)} {Lent = Unit {0}} (λ answer after. PacketOutcome list from position (answer .0) (answer .1)) tt (λ answer number. ⊥) []
   pub code-header : (header : Header) (out : List ℕ)
-      → Demand1 {Answer = CodeAnswer} (CodeHeaderOutcome header out) out (λ answer number. answer ≡ coding.Refused number) (2 ∷ 6 ∷ [])
+      → Demand1 {Answer = CodeAnswer} (CodeHeaderOutcome header out) out (λ answer number. answer ≡ coding.Refused number) codeNumbers
   pub read-header : (bytes : List ℕ)
-      → Demand1 {Answer = ReadAnswer} {Lent = Unit {0}} (λ answer after. answer ≡ readHeader bytes) tt (λ answer number. answer ≡ reading.Refused number) (2 ∷ 9 ∷ 10 ∷ 11 ∷ [])
+      → Demand1 {Answer = ReadAnswer} {Lent = Unit {0}} (λ answer after. answer ≡ readHeader bytes) tt (λ answer number. answer ≡ reading.Refused number) readNumbers
   pub level : (code : ℕ) → Demand1 {Answer = ℤ} {Lent = Unit {0}} (λ answer after. answer ≡ levelOf code) tt (λ answer number. ⊥) []

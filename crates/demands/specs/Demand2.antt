@@ -1,5 +1,6 @@
--- DEMAND 2: what is sent is bit for bit what the standard and paper 01 define; what is accepted is exactly what they allow, read back to the same fields and bytes. What they define is said by
--- `headerBytes` (the 16 bytes), `frameBytes` (a whole frame) and `Allowed` (the packing rules of an area). `demand2-holds` in proofs/Demand2.antt is the proof.
+-- DEMAND 2: what is sent is bit for bit what the standard and paper 01 define; what is accepted is exactly what they allow, read back to the same fields and
+-- bytes. What they define is said by `headerBytes` (the 16 bytes), `frameBytes` (a whole frame) and `Allowed` (the packing rules of an area). `demand2-holds`
+-- in proofs/Demand2.antt is the proof.
 use mathlib.Core.Path.{_≡_}
 use mathlib.Core.Logic.{_↔_}
 use mathlib.Core.Bool.{true, false}
@@ -23,10 +24,11 @@ use Rattle.frame.specs.declared.OpenAnswer.{OpenAnswer}
 use Rattle.frame.specs.declared.OpenAnswer.the-variants.{Opened}
 use Rattle.link.specs.Link.{Piece, Queue, cut, fits, missed, heldAfter}
 use Rattle.link.specs.Packing.{busy}
+use Rattle.marks.specs.Queue.{queueIn}
 use Rattle.packing.specs.Rules.{Allowed}
 use Rattle.packing.specs.Filling.{load}
 use Rattle.packing.specs.Reading.{read}
-use Rattle.sender.specs.Next.{queueIn, NextOutcome}
+use Rattle.sender.specs.Next.{NextOutcome}
 use Rattle.sender.specs.declared.Sender.{Sender}
 use Rattle.sender.specs.declared.NextAnswer.the-variants.{Sent}
 use Rattle.receiver.specs.Applying.{expectedNumber, isData}

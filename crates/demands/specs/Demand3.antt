@@ -1,6 +1,7 @@
--- DEMAND 3, over the calls themselves. A history has the calls made to a sender and what became of each frame that it sent; with each call stand what it was given, what it answered and
--- the lent bytes that it left. `SenderCalls` and `ReceiverCalls` ask of each call that it met its contract, the record that its `ensures` names, in the state and with the bytes that the
--- call before it left. So whatever the functions do is in a history, and no model of them stands beside. `demand3-holds` in proofs/Demand3.antt: every history keeps the promise.
+-- DEMAND 3, over the calls themselves. A history has the calls made to a sender and what became of each frame that it sent; with each call stand what it was
+-- given, what it answered and the lent bytes that it left. `SenderCalls` and `ReceiverCalls` ask of each call that it met its contract, the record that its
+-- `ensures` names, in the state and with the bytes that the call before it left. So whatever the functions do is in a history, and no model of them stands
+-- beside. `demand3-holds` in proofs/Demand3.antt: every history keeps the promise.
 use mathlib.Core.Path.{_≡_}
 use mathlib.Core.Bool.{true}
 use mathlib.Core.Option.{Option, none, some}
@@ -14,9 +15,10 @@ use Rattle.frame.specs.Opening.{openedHeader, openedArea}
 use Rattle.link.specs.Link.{Packet, Piece, Queue, Answer, taken, refused}
 use Rattle.link.specs.Ledger.{Mark, lost, accepted, Limit}
 use Rattle.link.specs.Demand3.{Demand3}
+use Rattle.marks.specs.Queue.{queueIn}
 use Rattle.joining.specs.Joining.{orNone}
 use Rattle.sender.specs.Put.{freshSender, PutOutcome}
-use Rattle.sender.specs.Next.{queueIn, NextOutcome}
+use Rattle.sender.specs.Next.{NextOutcome}
 use Rattle.sender.specs.declared.Sender.{Sender}
 use Rattle.sender.specs.declared.PutAnswer.{PutAnswer}
 use Rattle.sender.specs.declared.PutAnswer.the-variants as put
@@ -79,8 +81,8 @@ piecesCarried taps frame = orNone (piecesOf (openedHeader taps frame .kind) (ope
 
 -- ---------------------------------------------------------------- what becomes of a frame, and the receiver's calls
 
--- It is missing; or it comes as it was sent; or it comes damaged, as any other bytes, and is refused. With one that comes: the list's buffer, the answer, the bytes of the hold and
--- of the list after the call.
+-- It is missing; or it comes as it was sent; or it comes damaged, as any other bytes, and is refused. With one that comes: the list's buffer, the answer, the
+-- bytes of the hold and of the list after the call.
 pub data Fate : Type 0 where
   missing : Fate
   arrives : (list : List ℕ) (answer : ReceiveAnswer) (hold after : List ℕ) → Fate
@@ -90,8 +92,8 @@ abbrev pub receiveLeaves : Receiver → ReceiveAnswer → Receiver
 receiveLeaves receiver (receive.Received header missed packets listed after) = after
 receiveLeaves receiver (receive.Refused number) = receiver
 
--- The frames come in the order in which they were sent, once each, and nothing else comes. Each call meets its contract, given the state and the hold that the call before it left,
--- and a list buffer of the listed size. Frames past the end of the fates have not come yet.
+-- The frames come in the order in which they were sent, once each, and nothing else comes. Each call meets its contract, given the state and the hold that
+-- the call before it left, and a list buffer of the listed size. Frames past the end of the fates have not come yet.
 abbrev pub ReceiverCalls : ℕ → Receiver → List ℕ → List Fate → List (List ℕ) → Type 0
 ReceiverCalls taps receiver hold [] frames = Unit {0}
 ReceiverCalls taps receiver hold (fate ∷ fates) [] = ⊥
@@ -112,8 +114,8 @@ marks [] i = lost
 marks (fate ∷ fates) zero = markOf fate
 marks (fate ∷ fates) (suc i) = marks fates i
 
--- What the caller learns from a frame that comes as it was sent: the missed count, and the packets that `entry` and `packet` read from the listed bytes. A 16 while reading counts as a
--- refusal, and demand 3 excludes it.
+-- What the caller learns from a frame that comes as it was sent: the missed count, and the packets that `entry` and `packet` read from the listed bytes. A 16
+-- while reading counts as a refusal, and demand 3 excludes it.
 abbrev pub readOut : ℕ → Option (List Packet) → Answer
 readOut missed none = refused 16
 readOut missed (some packets) = taken missed packets
@@ -144,7 +146,8 @@ pub record History (taps : ℕ) (queue hold : List ℕ) (calls : List SenderCall
   -- no more than 65,535 frames in a row missing or refused between two accepted ones
   pub limit : Limit (marks fates)
 
--- what is promised: `Demand3` in crates/link/specs/Demand3.antt, of the packets taken, the frames sent, what is left in the queue, the fates and what the caller learned
+-- what is promised: `Demand3` in crates/link/specs/Demand3.antt, of the packets taken, the frames sent, what is left in the queue, the fates and what the
+-- caller learned
 abbrev pub Promise : ℕ → List ℕ → List SenderCall → List Fate → Type 0
 Promise taps queue calls fates =
     Demand3 (packetsPut calls) (map (piecesCarried taps) (framesSent calls)) (queueLeft freshSender queue calls) (marks fates) (learned fates)

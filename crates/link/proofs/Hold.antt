@@ -1,4 +1,5 @@
--- The receiver's own invariant: the held part stays at most 8,999 bytes, whatever frames it accepts, so that refusal 3 is never given to a state of its own. And what it puts out are packets.
+-- The receiver's own invariant: the held part stays at most 8,999 bytes, whatever frames it accepts, so that refusal 3 is never given to a state of its own.
+-- And what it puts out are packets.
 use mathlib.Core.Path.{_≡_, refl}
 use mathlib.Core.Bool.{Bool, true, false}
 use mathlib.Core.List.{List, [], _∷_, _++_}

@@ -1,6 +1,6 @@
 -- DEMAND 3: every frame that arrives is accepted; a packet comes out exactly if every frame from its first piece to its last was accepted, unaltered, once
 -- and in its turn; and the frames lost are counted. It is said of what was put, what was sent and what was answered, so that one record serves for
--- frames that are lists of pieces and for coded frames (`Machine`).
+-- frames that are lists of pieces and for the calls themselves (crate demands).
 use mathlib.Core.Path.{_≡_}
 use mathlib.Core.List.{List, [], _∷_, _++_, map}
 use Prim.Native.Nat.{ℕ, suc, _%_}

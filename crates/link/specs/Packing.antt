@@ -44,7 +44,3 @@ module _ (packing : Packing) where
   -- the pieces in a frame; only a DATA area is looked into
   abbrev pub piecesIn : Opened → Option (List Piece)
   piecesIn opened = cond (opened .isData) (packing .read (opened .area)) (some [])
-
-  -- a frame with a number is received
-  abbrev pub receiveOpened : Receiver → ℕ → Opened → Received
-  receiveOpened receiver number opened = receiveRead receiver number (piecesIn opened)

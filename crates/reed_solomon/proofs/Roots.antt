@@ -17,7 +17,7 @@ use Rattle.basics.specs.Lists.{zeros, Bytes}
 use Rattle.division.specs.Division.{plus, scale, remainder}
 use Rattle.division.proofs.Register.{scale-length}
 use Rattle.division.proofs.Identity.{plus-length-le}
-use Rattle.reed_solomon.proofs.Factors.{coefficients, generator-is}
+use Rattle.reed_solomon.proofs.Factors.{coefficients, rootAt, root-is, generator-is}
 use Rattle.reed_solomon.proofs.Laws.{Codeword}
 
 -- the value at x of a polynomial whose coefficients before those of the list have the value a
@@ -77,10 +77,10 @@ value-zeros x (suc n) = ap (λ (y : ℕ). value x (bitXor y 0) (zeros n)) (zero-
 -- ---- the roots of the generator, computed
 
 root-test : ℕ → Bool
-root-test i = eqb (value (power (11 * (120 + i))) 1 (tail coefficients)) 0
+root-test i = eqb (value (rootAt i) 1 (tail coefficients)) 0
 
 root-tests : T (allBelow 16 root-test)
-unfolding root-test value power times sumOver double twice
+unfolding root-test rootAt value power times sumOver double twice
 root-tests = tt
 
 coefficients-are-bytes : Bytes (tail coefficients)
@@ -88,7 +88,7 @@ coefficients-are-bytes = (lit< tt, (lit< tt, (lit< tt, (lit< tt, (lit< tt, (lit<
 
 pub root : (i : ℕ) → i < 16 → value (power (11 * (120 + i))) 1 (tail coefficients) ≡ 0
 unfolding root-test
-root i h = eqb→eq (value (power (11 * (120 + i))) 1 (tail coefficients)) 0 (below 16 root-test root-tests i h)
+root i h = ap (λ (x : ℕ). value x 1 (tail coefficients)) (root-is i) ∙ eqb→eq (value (rootAt i) 1 (tail coefficients)) 0 (below 16 root-test root-tests i h)
 
 pub codeword-root : (w : List ℕ) → Bytes w → Codeword w → (i : ℕ) → i < 16 → value (power (11 * (120 + i))) 0 w ≡ 0
 unfolding Codeword
