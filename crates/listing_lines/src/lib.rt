@@ -1,11 +1,13 @@
 // The lines of a listing, as text (01, the listing program): written into lent bytes, which a program then prints.
 use header::FrameKind;
+use receiver::ReceiveAnswer;
+use receiver::Receiver;
 ghost use mathlib.Core.Path.{_≡_};
 ghost use mathlib.Core.List.{[], _∷_, _++_};
 ghost use Prim.Native.Nat.{_+_, _≤_};
 ghost use lib.ListN.{length};
 ghost use Rattle.lent.specs.Written.{written};
-ghost use Rattle.listing_lines.specs.Lines.{decimal, kindWord, headLine, acceptedLine, refusedLine};
+ghost use Rattle.listing_lines.specs.Lines.{decimal, kindWord, headLine, acceptedLine, refusedLine, answerLine, receiverAfter};
 
 // What stands behind a word.
 const SPACE: u8 = 32;
@@ -58,7 +60,7 @@ pub fn write_head(out: &mut [u8]) -> usize
 }
 
 // Writes the line of an accepted frame, and gives its length.
-pub fn write_accepted(
+fn write_accepted(
     out: &mut [u8],
     place: u64,
     txfn: u16,
@@ -78,7 +80,7 @@ pub fn write_accepted(
 }
 
 // Writes the line of a refused frame, and gives its length.
-pub fn write_refused(out: &mut [u8], place: u64, number: u8) -> usize
+fn write_refused(out: &mut [u8], place: u64, number: u8) -> usize
     requires { ⌜ 96 ≤ length (now out) ⌝ }
     ensures { λ r. ⌜ (r ≡ length (refusedLine place number)) × (r ≤ 96) ⌝ }
     ensures { λ _. ⌜ now (out .exit) ≡ written (now (out .entry)) 0 (refusedLine place number) ⌝ }
@@ -86,4 +88,35 @@ pub fn write_refused(out: &mut [u8], place: u64, number: u8) -> usize
     let after_place = write_number(out, 0, place, SPACE);
     let after_refused = write_word(out, after_place, b"refused", SPACE);
     write_number(out, after_refused, number as u64, NEWLINE)
+}
+
+// Writes the line of a frame, by the receiver's answer to it, and gives its length.
+pub fn write_line(out: &mut [u8], place: u64, answer: ReceiveAnswer) -> usize
+    requires { ⌜ 96 ≤ length (now out) ⌝ }
+    ensures { λ r. ⌜ (r ≡ length (answerLine place answer)) × (r ≤ 96) ⌝ }
+    ensures { λ _. ⌜ now (out .exit) ≡ written (now (out .entry)) 0 (answerLine place answer) ⌝ }
+{
+    match answer {
+        ReceiveAnswer::Received {
+            header,
+            missed,
+            packets,
+            ..
+        } => {
+            let txfn = header.txfn;
+            let kind = header.kind;
+            write_accepted(out, place, txfn.0, kind, missed, packets)
+        }
+        ReceiveAnswer::Refused(number) => write_refused(out, place, number),
+    }
+}
+
+// The receiver after a frame: a refusal leaves it as it was.
+pub fn receiver_after(before: Receiver, answer: ReceiveAnswer) -> Receiver
+    ensures { λ r. ⌜ r ≡ receiverAfter before answer ⌝ }
+{
+    match answer {
+        ReceiveAnswer::Received { receiver, .. } => receiver,
+        ReceiveAnswer::Refused(_) => before,
+    }
 }
