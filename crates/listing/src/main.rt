@@ -14,7 +14,13 @@ struct Turn {
 }
 
 // Reads the next frame and prints its line. A piece that is shorter than a frame is the last one.
-fn next_listed(place: u64, receiver: Receiver, frame: &mut [u8], hold: &mut [u8], list: &mut [u8]) -> Turn {
+fn next_listed(
+    place: u64,
+    receiver: Receiver,
+    frame: &mut [u8],
+    hold: &mut [u8],
+    list: &mut [u8],
+) -> Turn {
     let length = io::read_full(STDIN_FILENO, frame);
     if length == 0 {
         return Turn {

@@ -1,5 +1,5 @@
 -- A line is written word by word, each with the byte behind it, from the front of the buffer on.
-use mathlib.Core.Path.{_≡_, sym, ap, _∙_}
+use mathlib.Core.Path.{_≡_, ap, _∙_}
 use mathlib.Core.List.{List, [], _∷_, _++_, append-assoc}
 use Prim.Native.Nat.{ℕ, _+_, _≤_}
 use native.Mathlib.Omega.{arith}
@@ -35,7 +35,7 @@ with word behind = word ++ (behind ∷ [])
 
 pub accepted-words : (place txfn : ℕ) (kind : FrameKind) (missed packets : ℕ)
     → with (decimal place) 32 ++ with (decimal txfn) 32 ++ with (kindWord kind) 32 ++ with (decimal missed) 32 ++ with (decimal packets) 10
-      ≡ acceptedLine place txfn kind missed packets
+    ≡ acceptedLine place txfn kind missed packets
 unfolding acceptedLine
 accepted-words place txfn kind missed packets = simp append-assoc
 

@@ -11,6 +11,7 @@ ghost use Rattle.listing_lines.specs.Lines.{decimal, kindWord, headLine,
 
 // What stands behind a word.
 const SPACE: u8 = 32;
+
 const NEWLINE: u8 = 10;
 
 // Writes a word and the byte behind it from an index on, and gives the index behind both.

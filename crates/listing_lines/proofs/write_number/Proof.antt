@@ -1,34 +1,33 @@
+use native.Mathlib.Omega.{arith}
+use Rattle.listing_lines.proofs.Decimal.{few-digits, number-written}
 use borrow.Author.Needs.{needs}
 use Rattle.listing_lines.proofs.write_number.Statement.{statement}
 use Rattle.listing_lines.proofs.write_number.Tie as tie
-use Rattle.listing_lines.proofs.write_number.Reads as reads
-use Rattle.listing_lines.proofs.write_number.Lts as lts
-use Rattle.io.proofs.decimal.Reads as decimal-reads
-use Rattle.listing_lines.proofs.write_word.Reads as write-word-reads
 
--- src/lib.rt:33:9
 decimal-requires : tie.Need-decimal-requires
 decimal-requires c κs = search needs
 
--- src/lib.rt:34:25
 array-share-prefix-digits : tie.Need-array-share-prefix-digits
 array-share-prefix-digits c = search needs
 
--- src/lib.rt:34:25
 slice-aggregate-write-word : tie.Need-slice-aggregate-write-word
 slice-aggregate-write-word c = search needs
 
--- src/lib.rt:34:5
 write-word-requires : tie.Need-write-word-requires
-write-word-requires c κs = ?
+write-word-requires c κs =
+    let at-decimal = c .before .before .decimal in
+    let at-args = c .before .before .before .before .before .args in
+    let few = few-digits (at-decimal .result) (at-args .number) (omega arith) (at-decimal .ensures .1 .0) in omega (arith, (at-decimal .ensures .0 .1))
 
--- src/lib.rt:27:1
 same-length : tie.Need-same-length
 same-length c = search needs
 
--- src/lib.rt:27:1
 returns : tie.Need-returns
-returns c = ?
+returns c =
+    let at-args = c .before .before .before .before .before .before .before .before .args in
+    let at-decimal = c .before .before .before .before .before .decimal in
+    let at-write-word = c .before .before .write-word in
+    number-written (at-args .out .now) (at-args .at) (at-decimal .result) (at-args .number) (at-args .behind) _ _ _ (omega arith) (at-decimal .ensures .0 .1) (at-decimal .ensures .1 .0) (at-decimal .ensures .1 .1) (at-write-word .ensures .0) (at-write-word .ensures .1)
 
 pub write-number-spec : {M : Type 1} → statement M
 write-number-spec =
