@@ -39,19 +39,17 @@ fn next_listed(
     }
 }
 
-// A proved loop has to end, and nothing says that the input does: it ends with the places, 2^64 of them.
-fn list_all() {
-    let mut frame = [0u8; 2081];
-    let mut hold = [0u8; 9000];
-    let mut list = [0u8; 10907];
+// A proved loop has to end, and nothing says that the input does: it ends with the places, of which there are 2^64.
+fn list_all(frame: &mut [u8], hold: &mut [u8], list: &mut [u8]) {
     let mut receiver = Receiver::fresh();
     let mut place: u64 = 0;
-    let mut goes_on = true;
-    while goes_on && place < u64::MAX {
-        let turn = next_listed(place, receiver, &mut frame, &mut hold, &mut list);
+    while place < u64::MAX {
+        let turn = next_listed(place, receiver, frame, hold, list);
+        if !turn.goes_on {
+            return;
+        }
         let after = turn.receiver;
         receiver = after;
-        goes_on = turn.goes_on;
         place += 1;
     }
 }
@@ -60,5 +58,8 @@ fn main() {
     let mut head = [0u8; 96];
     let end = listing_lines::write_head(&mut head);
     io::write_all(STDOUT_FILENO, &head[..end]);
-    list_all();
+    let mut frame = [0u8; 2081];
+    let mut hold = [0u8; 9000];
+    let mut list = [0u8; 10907];
+    list_all(&mut frame, &mut hold, &mut list);
 }

@@ -51,10 +51,10 @@ fn write_kind(out: &mut [u8], at: usize, kind: FrameKind, behind: u8) -> usize
     }
 }
 
-// Writes the head line, and gives its length.
+// Writes the head line, and gives its length. This line and all others have room in 96 bytes.
 pub fn write_head(out: &mut [u8]) -> usize
-    requires { ⌜ 31 ≤ length (now out) ⌝ }
-    ensures { λ r. ⌜ r ≡ length headLine ⌝ }
+    requires { ⌜ 96 ≤ length (now out) ⌝ }
+    ensures { λ r. ⌜ (r ≡ length headLine) × (r ≤ 96) ⌝ }
     ensures { λ _. ⌜ now (out .exit) ≡ written (now (out .entry)) 0 headLine ⌝ }
 {
     write_word(out, 0, b"frame txfn kind missed packets", NEWLINE)

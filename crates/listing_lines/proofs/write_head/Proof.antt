@@ -1,3 +1,4 @@
+use native.Mathlib.Omega.{arith}
 use Rattle.listing_lines.specs.Lines.{headLine}
 use borrow.Author.Needs.{needs}
 use Rattle.listing_lines.proofs.write_head.Statement.{statement}
@@ -16,7 +17,7 @@ returns : tie.Need-returns
 unfolding headLine
 returns c =
     let at-write-word = c .before .before .write-word in
-    ((at-write-word .ensures .0), (at-write-word .ensures .1))
+    (((at-write-word .ensures .0), omega arith), (at-write-word .ensures .1))
 
 pub write-head-spec : {M : Type 1} → statement M
 write-head-spec =
