@@ -1,4 +1,4 @@
--- What building a frame does to the queue that the bytes stand for (demand 3): `nexts` of link's Machine.
+-- What building a frame does to the queue that the bytes stand for (demand 3).
 use mathlib.Core.Path.{_≡_, refl, sym, ap, _∙_}
 use mathlib.Core.Bool.{Bool, true, false, cond}
 use mathlib.Core.Option.{Option, none, some}
