@@ -1,0 +1,78 @@
+use Rattle.basics.proofs.Tests.{both-true}
+use mathlib.Core.Path.{sym, ap, _∙_}
+use lib.Dec.{leb}
+use Rattle.lent.proofs.Outcome.{with-test}
+use borrow.Author.Tests.{lt-leb, le-leb}
+use Rattle.flat.specs.Messages.{numbersFit}
+use borrow.Author.Needs.{needs}
+use Rattle.flat.proofs.messages.numbers_fit.Statement.{statement}
+use Rattle.flat.proofs.messages.numbers_fit.Tie as tie
+use Rattle.flat.proofs.messages.numbers_fit.Reads as reads
+use Rattle.flat.proofs.messages.numbers_fit.Lts as lts
+use Rattle.flat.proofs.messages.first_most.Reads as first-most-reads
+use Rattle.flat.proofs.messages.second_most.Reads as second-most-reads
+use Rattle.flat.proofs.messages.third_most.Reads as third-most-reads
+
+-- src/messages.rt:59:9
+returns : tie.Need-returns
+unfolding numbersFit
+returns c =
+    let at-if1 = c .if1 in
+    simp (lt-leb _ _ (at-if1 .taken))
+
+-- src/messages.rt:61:8
+first-most-requires : tie.Need-first-most-requires
+first-most-requires c κs = search needs
+
+-- src/messages.rt:62:9
+returns-2 : tie.Need-returns-2
+unfolding numbersFit
+returns-2 c =
+    let at-if1 = c .before .before .before .if1 in
+    let at-first-most = c .before .before .first-most in
+    let at-if2 = c .if2 in
+    simp (le-leb _ _ (at-if1 .left), ← (at-first-most .ensures), lt-leb _ _ (at-if2 .taken))
+
+-- src/messages.rt:64:8
+second-most-requires : tie.Need-second-most-requires
+second-most-requires c κs = search needs
+
+-- src/messages.rt:65:9
+returns-3 : tie.Need-returns-3
+unfolding numbersFit
+returns-3 c =
+    let at-if1 = c .before .before .before .before .before .before .if1 in
+    let at-first-most = c .before .before .before .before .before .first-most in
+    let at-if2 = c .before .before .before .if2 in
+    let at-second-most = c .before .before .second-most in
+    let at-if3 = c .if3 in
+    simp (le-leb _ _ (at-if1 .left), ← (at-first-most .ensures), le-leb _ _ (at-if2 .left), ← (at-second-most .ensures), lt-leb _ _ (at-if3 .taken))
+
+-- src/messages.rt:67:22
+third-most-requires : tie.Need-third-most-requires
+third-most-requires c κs = search needs
+
+-- src/messages.rt:54:1
+returns-4 : tie.Need-returns-4
+unfolding numbersFit
+returns-4 c =
+    let at-if1 = c .before .before .before .before .before .before .before .before .if1 in
+    let at-args = c .before .before .before .before .before .before .before .before .before .args in
+    let at-first-most = c .before .before .before .before .before .before .before .first-most in
+    let at-if2 = c .before .before .before .before .before .if2 in
+    let at-second-most = c .before .before .before .before .second-most in
+    let at-if3 = c .before .before .if3 in
+    let at-third-most = c .before .third-most in
+    with-test (both-true _ _ (both-true _ _ (le-leb _ _ (at-if1 .left)) (sym (ap (leb ((at-args .message .first))) (at-first-most .ensures)) ∙ le-leb _ _ (at-if2 .left))) (sym (ap (leb ((at-args .message .second))) (at-second-most .ensures)) ∙ le-leb _ _ (at-if3 .left))) (ap (leb ((at-args .message .third))) (at-third-most .ensures))
+
+pub numbers-fit-spec : {M : Type 1} → statement M
+numbers-fit-spec =
+    tie.close
+    (tie.spec
+    returns
+    first-most-requires
+    returns-2
+    second-most-requires
+    returns-3
+    third-most-requires
+    returns-4)

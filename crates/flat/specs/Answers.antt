@@ -1,0 +1,27 @@
+-- What C gets for each answer of the library: the refusal's number, 0 for none, and the values. After a refusal the state is the one that was given, and all else is 0.
+use Prim.Native.Nat.{ℕ}
+use Rattle.header.specs.Header.{kindNumber}
+use Rattle.header.specs.declared.ReadAnswer.{ReadAnswer}
+use Rattle.header.specs.declared.ReadAnswer.the-variants as read
+use Rattle.sender.specs.declared.PutAnswer.{PutAnswer}
+use Rattle.sender.specs.declared.PutAnswer.the-variants as put
+use Rattle.sender.specs.declared.NextAnswer.{NextAnswer}
+use Rattle.sender.specs.declared.NextAnswer.the-variants as next
+use Rattle.flat.specs.Headers.{flatHeader, noHeader}
+use Rattle.flat.specs.States.{flatSender}
+use Rattle.flat.specs.declared.states.FlatSender.{FlatSender}
+use Rattle.flat.specs.declared.answers.FlatPut.{FlatPut}
+use Rattle.flat.specs.declared.answers.FlatNext.{FlatNext}
+use Rattle.flat.specs.declared.answers.FlatRead.{FlatRead}
+
+abbrev pub flatPut : FlatSender → PutAnswer → FlatPut
+flatPut given (put.Taken sender) = record { sender = flatSender sender; refusal = 0 }
+flatPut given (put.Refused number) = record { sender = given; refusal = number }
+
+abbrev pub flatNext : FlatSender → NextAnswer → FlatNext
+flatNext given (next.Sent sender kind) = record { sender = flatSender sender; kind = kindNumber kind; refusal = 0 }
+flatNext given (next.Refused number) = record { sender = given; kind = 0; refusal = number }
+
+abbrev pub flatRead : ReadAnswer → FlatRead
+flatRead (read.Read header) = record { header = flatHeader header; refusal = 0 }
+flatRead (read.Refused number) = record { header = noHeader; refusal = number }

@@ -1,0 +1,87 @@
+// Answers: the refusal's number, 0 for none, beside the values. A refusal's answer has the state as it was given, and zeros elsewhere.
+use crate::headers;
+use crate::headers::FlatHeader;
+use crate::states;
+use crate::states::FlatSender;
+use header::CodeAnswer;
+use header::ReadAnswer;
+use sender::NextAnswer;
+use sender::PutAnswer;
+ghost use mathlib.Core.Path.{_≡_};
+ghost use Rattle.header.specs.Calls.{codeNumber};
+ghost use Rattle.flat.specs.Answers.{flatPut, flatNext, flatRead};
+
+#[repr(C)]
+pub struct FlatPut {
+    pub sender: FlatSender,
+    pub refusal: u8,
+}
+
+#[repr(C)]
+pub struct FlatNext {
+    pub sender: FlatSender,
+    pub kind: u8,
+    pub refusal: u8,
+}
+
+#[repr(C)]
+pub struct FlatRead {
+    pub header: FlatHeader,
+    pub refusal: u8,
+}
+
+pub fn flat_put(given: FlatSender, answer: PutAnswer) -> FlatPut
+    ensures { λ r. ⌜ r ≡ flatPut given answer ⌝ }
+{
+    match answer {
+        PutAnswer::Taken(after) => FlatPut {
+            sender: states::flat_sender(after),
+            refusal: 0,
+        },
+        PutAnswer::Refused(number) => FlatPut {
+            sender: given,
+            refusal: number,
+        },
+    }
+}
+
+pub fn flat_next(given: FlatSender, answer: NextAnswer) -> FlatNext
+    ensures { λ r. ⌜ r ≡ flatNext given answer ⌝ }
+{
+    match answer {
+        NextAnswer::Sent { sender, kind } => FlatNext {
+            sender: states::flat_sender(sender),
+            kind: headers::kind_number(kind),
+            refusal: 0,
+        },
+        NextAnswer::Refused(number) => FlatNext {
+            sender: given,
+            kind: 0,
+            refusal: number,
+        },
+    }
+}
+
+pub fn code_number(answer: CodeAnswer) -> u8
+    ensures { λ r. ⌜ r ≡ codeNumber answer ⌝ }
+{
+    match answer {
+        CodeAnswer::Coded => 0,
+        CodeAnswer::Refused(number) => number,
+    }
+}
+
+pub fn flat_read(answer: ReadAnswer) -> FlatRead
+    ensures { λ r. ⌜ r ≡ flatRead answer ⌝ }
+{
+    match answer {
+        ReadAnswer::Read(header) => FlatRead {
+            header: headers::flat_header(header),
+            refusal: 0,
+        },
+        ReadAnswer::Refused(number) => FlatRead {
+            header: headers::no_header(),
+            refusal: number,
+        },
+    }
+}
