@@ -1,40 +1,30 @@
 use borrow.Author.Needs.{needs}
 use Rattle.flat.proofs.answers.flat_next.Statement.{statement}
 use Rattle.flat.proofs.answers.flat_next.Tie as tie
-use Rattle.flat.proofs.answers.flat_next.Reads as reads
-use Rattle.flat.proofs.answers.flat_next.Lts as lts
-use Rattle.flat.proofs.headers.kind_number.Reads as kind-number-reads
-use Rattle.flat.proofs.states.flat_sender.Reads as flat-sender-reads
 
--- src/answers.rt:52:28
 enum-known-answer : tie.Need-enum-known-answer
 enum-known-answer c = search needs
 
--- src/answers.rt:53:21
 flat-sender-requires : tie.Need-flat-sender-requires
 flat-sender-requires c κs = search needs
 
--- src/answers.rt:54:19
 kind-number-requires : tie.Need-kind-number-requires
 kind-number-requires c κs = search needs
 
--- src/answers.rt:57:29
 enum-known-answer-2 : tie.Need-enum-known-answer-2
 enum-known-answer-2 c = search needs
 
--- src/answers.rt:48:1
 returns : tie.Need-returns
 returns c =
     let at-answer = c .before .before .before .answer in
     let at-flat-sender = c .before .flat-sender in
     let at-kind-number = c .kind-number in
-    simp ((at-answer .given .1), (at-flat-sender .ensures), (at-kind-number .ensures))
+    simp (at-answer .given .1, at-flat-sender .ensures, at-kind-number .ensures)
 
--- src/answers.rt:48:1
 returns-2 : tie.Need-returns-2
 returns-2 c =
     let at-answer2 = c .before .answer2 in
-    simp ((at-answer2 .given .1))
+    simp (at-answer2 .given .1)
 
 pub flat-next-spec : {M : Type 1} → statement M
 flat-next-spec =

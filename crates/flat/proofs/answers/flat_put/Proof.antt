@@ -1,34 +1,26 @@
 use borrow.Author.Needs.{needs}
 use Rattle.flat.proofs.answers.flat_put.Statement.{statement}
 use Rattle.flat.proofs.answers.flat_put.Tie as tie
-use Rattle.flat.proofs.answers.flat_put.Reads as reads
-use Rattle.flat.proofs.answers.flat_put.Lts as lts
-use Rattle.flat.proofs.states.flat_sender.Reads as flat-sender-reads
 
--- src/answers.rt:37:26
 enum-known-answer : tie.Need-enum-known-answer
 enum-known-answer c = search needs
 
--- src/answers.rt:38:21
 flat-sender-requires : tie.Need-flat-sender-requires
 flat-sender-requires c κs = search needs
 
--- src/answers.rt:41:28
 enum-known-answer-2 : tie.Need-enum-known-answer-2
 enum-known-answer-2 c = search needs
 
--- src/answers.rt:33:1
 returns : tie.Need-returns
 returns c =
     let at-answer = c .before .before .answer in
     let at-flat-sender = c .flat-sender in
-    simp ((at-answer .given .1), (at-flat-sender .ensures))
+    simp (at-answer .given .1, at-flat-sender .ensures)
 
--- src/answers.rt:33:1
 returns-2 : tie.Need-returns-2
 returns-2 c =
     let at-answer2 = c .before .answer2 in
-    simp ((at-answer2 .given .1))
+    simp (at-answer2 .given .1)
 
 pub flat-put-spec : {M : Type 1} → statement M
 flat-put-spec =

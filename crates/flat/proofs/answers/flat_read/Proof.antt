@@ -1,40 +1,30 @@
 use borrow.Author.Needs.{needs}
 use Rattle.flat.proofs.answers.flat_read.Statement.{statement}
 use Rattle.flat.proofs.answers.flat_read.Tie as tie
-use Rattle.flat.proofs.answers.flat_read.Reads as reads
-use Rattle.flat.proofs.answers.flat_read.Lts as lts
-use Rattle.flat.proofs.headers.flat_header.Reads as flat-header-reads
-use Rattle.flat.proofs.headers.no_header.Reads as no-header-reads
 
--- src/answers.rt:78:26
 enum-known-answer : tie.Need-enum-known-answer
 enum-known-answer c = search needs
 
--- src/answers.rt:79:21
 flat-header-requires : tie.Need-flat-header-requires
 flat-header-requires c κs = search needs
 
--- src/answers.rt:82:29
 enum-known-answer-2 : tie.Need-enum-known-answer-2
 enum-known-answer-2 c = search needs
 
--- src/answers.rt:83:21
 no-header-requires : tie.Need-no-header-requires
 no-header-requires c κs = search needs
 
--- src/answers.rt:74:1
 returns : tie.Need-returns
 returns c =
     let at-answer = c .before .before .answer in
     let at-flat-header = c .flat-header in
-    simp ((at-answer .given .1), (at-flat-header .ensures))
+    simp (at-answer .given .1, at-flat-header .ensures)
 
--- src/answers.rt:74:1
 returns-2 : tie.Need-returns-2
 returns-2 c =
     let at-answer2 = c .before .before .answer2 in
     let at-no-header = c .no-header in
-    simp ((at-answer2 .given .1), (at-no-header .ensures))
+    simp (at-answer2 .given .1, at-no-header .ensures)
 
 pub flat-read-spec : {M : Type 1} → statement M
 flat-read-spec =

@@ -2,17 +2,13 @@ use borrow.Author.Tests.{lt-leb, le-leb}
 use Rattle.flat.specs.Headers.{flagsFit}
 use Rattle.flat.proofs.headers.flags_fit.Statement.{statement}
 use Rattle.flat.proofs.headers.flags_fit.Tie as tie
-use Rattle.flat.proofs.headers.flags_fit.Reads as reads
-use Rattle.flat.proofs.headers.flags_fit.Lts as lts
 
--- src/headers.rt:37:9
 returns : tie.Need-returns
 unfolding flagsFit
 returns c =
     let at-if1 = c .if1 in
     simp (lt-leb _ _ (at-if1 .taken))
 
--- src/headers.rt:33:1
 returns-2 : tie.Need-returns-2
 unfolding flagsFit
 returns-2 c =

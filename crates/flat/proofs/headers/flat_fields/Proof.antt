@@ -1,30 +1,22 @@
 use borrow.Author.Needs.{needs}
 use Rattle.flat.proofs.headers.flat_fields.Statement.{statement}
 use Rattle.flat.proofs.headers.flat_fields.Tie as tie
-use Rattle.flat.proofs.headers.flat_fields.Reads as reads
-use Rattle.flat.proofs.headers.flat_fields.Lts as lts
-use Rattle.flat.proofs.headers.bit_of.Reads as bit-of-reads
-use Rattle.flat.proofs.messages.flat_message.Reads as flat-message-reads
 
--- src/headers.rt:127:9
 flat-message-requires : tie.Need-flat-message-requires
 flat-message-requires c κs = search needs
 
--- src/headers.rt:131:14
 bit-of-requires : tie.Need-bit-of-requires
 bit-of-requires c κs = search needs
 
--- src/headers.rt:132:16
 bit-of-requires-2 : tie.Need-bit-of-requires-2
 bit-of-requires-2 c κs = search needs
 
--- src/headers.rt:123:1
 returns : tie.Need-returns
 returns c =
     let at-flat-message = c .before .before .flat-message in
     let at-bit-of = c .before .bit-of in
     let at-bit-of2 = c .bit-of2 in
-    simp ((at-flat-message .ensures), (at-bit-of .ensures), (at-bit-of2 .ensures))
+    simp (at-flat-message .ensures, at-bit-of .ensures, at-bit-of2 .ensures)
 
 pub flat-fields-spec : {M : Type 1} → statement M
 flat-fields-spec =

@@ -2,31 +2,25 @@ use borrow.Author.Tests.{ne-eqb}
 use Rattle.header.specs.Header.{kindOf}
 use Rattle.flat.proofs.headers.kind_of.Statement.{statement}
 use Rattle.flat.proofs.headers.kind_of.Tie as tie
-use Rattle.flat.proofs.headers.kind_of.Reads as reads
-use Rattle.flat.proofs.headers.kind_of.Lts as lts
 
--- src/headers.rt:81:1
 returns : tie.Need-returns
 unfolding kindOf
 returns c =
     let at-match = c .match in
-    simp ((at-match .keys1))
+    simp (at-match .keys1)
 
--- src/headers.rt:81:1
 returns-2 : tie.Need-returns-2
 unfolding kindOf
 returns-2 c =
     let at-match = c .match in
-    simp ((at-match .keys2))
+    simp (at-match .keys2)
 
--- src/headers.rt:81:1
 returns-3 : tie.Need-returns-3
 unfolding kindOf
 returns-3 c =
     let at-match = c .match in
-    simp ((at-match .keys3))
+    simp (at-match .keys3)
 
--- src/headers.rt:81:1
 returns-4 : tie.Need-returns-4
 unfolding kindOf
 returns-4 c =

@@ -4,13 +4,7 @@ use Rattle.flat.specs.Headers.{sentMessage}
 use borrow.Author.Needs.{needs}
 use Rattle.flat.proofs.headers.sent_message.Statement.{statement}
 use Rattle.flat.proofs.headers.sent_message.Tie as tie
-use Rattle.flat.proofs.headers.sent_message.Reads as reads
-use Rattle.flat.proofs.headers.sent_message.Lts as lts
-use Rattle.flat.proofs.headers.flags_fit.Reads as flags-fit-reads
-use Rattle.flat.proofs.messages.message_of.Reads as message-of-reads
-use Rattle.flat.proofs.messages.numbers_fit.Reads as numbers-fit-reads
 
--- src/headers.rt:48:9
 returns : tie.Need-returns
 unfolding sentMessage
 returns c =
@@ -18,11 +12,9 @@ returns c =
     let at-if1 = c .if1 in
     simp (not-true ((at-args .others)) (at-if1 .taken))
 
--- src/headers.rt:50:9
 flags-fit-requires : tie.Need-flags-fit-requires
 flags-fit-requires c κs = search needs
 
--- src/headers.rt:51:9
 returns-2 : tie.Need-returns-2
 unfolding sentMessage
 returns-2 c =
@@ -32,11 +24,9 @@ returns-2 c =
     let at-if2 = c .if2 in
     simp (not-false ((at-args .others)) (at-if1 .left), sym (at-flags-fit .ensures) ∙ not-true _ (at-if2 .taken))
 
--- src/headers.rt:53:9
 numbers-fit-requires : tie.Need-numbers-fit-requires
 numbers-fit-requires c κs = search needs
 
--- src/headers.rt:54:9
 returns-3 : tie.Need-returns-3
 unfolding sentMessage
 returns-3 c =
@@ -48,11 +38,9 @@ returns-3 c =
     let at-if3 = c .if3 in
     simp (not-false ((at-args .others)) (at-if1 .left), sym (at-flags-fit .ensures) ∙ not-false _ (at-if2 .left), sym (at-numbers-fit .ensures) ∙ not-true _ (at-if3 .taken))
 
--- src/headers.rt:56:5
 message-of-requires : tie.Need-message-of-requires
 message-of-requires c κs = search needs
 
--- src/headers.rt:43:1
 returns-4 : tie.Need-returns-4
 unfolding sentMessage
 returns-4 c =
@@ -63,7 +51,7 @@ returns-4 c =
     let at-numbers-fit = c .before .before .numbers-fit in
     let at-if3 = c .before .if3 in
     let at-message-of = c .message-of in
-    simp (not-false ((at-args .others)) (at-if1 .left), sym (at-flags-fit .ensures) ∙ not-false _ (at-if2 .left), sym (at-numbers-fit .ensures) ∙ not-false _ (at-if3 .left), (at-message-of .ensures))
+    simp (not-false ((at-args .others)) (at-if1 .left), sym (at-flags-fit .ensures) ∙ not-false _ (at-if2 .left), sym (at-numbers-fit .ensures) ∙ not-false _ (at-if3 .left), at-message-of .ensures)
 
 pub sent-message-spec : {M : Type 1} → statement M
 sent-message-spec =

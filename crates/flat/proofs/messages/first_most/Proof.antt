@@ -2,59 +2,49 @@ use borrow.Author.Tests.{ne-eqb}
 use Rattle.flat.specs.Messages.{firstMost}
 use Rattle.flat.proofs.messages.first_most.Statement.{statement}
 use Rattle.flat.proofs.messages.first_most.Tie as tie
-use Rattle.flat.proofs.messages.first_most.Reads as reads
-use Rattle.flat.proofs.messages.first_most.Lts as lts
 
--- src/messages.rt:16:1
 returns : tie.Need-returns
 unfolding firstMost
 returns c =
     let at-match = c .match in
-    simp ((at-match .keys1))
+    simp (at-match .keys1)
 
--- src/messages.rt:16:1
 returns-2 : tie.Need-returns-2
 unfolding firstMost
 returns-2 c =
     let at-match = c .match in
-    simp ((at-match .keys2))
+    simp (at-match .keys2)
 
--- src/messages.rt:16:1
 returns-3 : tie.Need-returns-3
 unfolding firstMost
 returns-3 c =
     let at-match = c .match in
-    simp ((at-match .keys3))
+    simp (at-match .keys3)
 
--- src/messages.rt:16:1
 returns-4 : tie.Need-returns-4
 unfolding firstMost
 returns-4 c =
     let at-match = c .match in
-    simp ((at-match .keys4))
+    simp (at-match .keys4)
 
--- src/messages.rt:16:1
 returns-5 : tie.Need-returns-5
 unfolding firstMost
 returns-5 c =
     let at-match = c .match in
-    simp ((at-match .keys5))
+    simp (at-match .keys5)
 
--- src/messages.rt:16:1
 returns-6 : tie.Need-returns-6
 unfolding firstMost
 returns-6 c =
     let at-match = c .match in
-    simp ((at-match .keys6))
+    simp (at-match .keys6)
 
--- src/messages.rt:16:1
 returns-7 : tie.Need-returns-7
 unfolding firstMost
 returns-7 c =
     let at-match = c .match in
-    simp ((at-match .keys7))
+    simp (at-match .keys7)
 
--- src/messages.rt:16:1
 returns-8 : tie.Need-returns-8
 unfolding firstMost
 returns-8 c =

@@ -1,16 +1,12 @@
 use borrow.Author.Tests.{eq-eqb, ne-eqb}
 use Rattle.flat.proofs.messages.lock_of.Statement.{statement}
 use Rattle.flat.proofs.messages.lock_of.Tie as tie
-use Rattle.flat.proofs.messages.lock_of.Reads as reads
-use Rattle.flat.proofs.messages.lock_of.Lts as lts
 
--- src/messages.rt:70:1
 returns : tie.Need-returns
 returns c =
     let at-if1 = c .if1 in
     simp (eq-eqb _ _ (at-if1 .taken))
 
--- src/messages.rt:70:1
 returns-2 : tie.Need-returns-2
 returns-2 c =
     let at-if1 = c .if1 in

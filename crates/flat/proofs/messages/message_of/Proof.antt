@@ -3,105 +3,84 @@ use Rattle.flat.specs.Messages.{messageOf}
 use borrow.Author.Needs.{needs}
 use Rattle.flat.proofs.messages.message_of.Statement.{statement}
 use Rattle.flat.proofs.messages.message_of.Tie as tie
-use Rattle.flat.proofs.messages.message_of.Reads as reads
-use Rattle.flat.proofs.messages.message_of.Lts as lts
-use Rattle.flat.proofs.messages.lock_of.Reads as lock-of-reads
 
--- src/messages.rt:101:19
 lock-of-requires : tie.Need-lock-of-requires
 lock-of-requires c κs = search needs
 
--- src/messages.rt:104:19
 cast-t9 : tie.Need-cast-t9
 cast-t9 c = search needs
 
--- src/messages.rt:105:24
 cast-t11 : tie.Need-cast-t11
 cast-t11 c = search needs
 
--- src/messages.rt:109:19
 lock-of-requires-2 : tie.Need-lock-of-requires-2
 lock-of-requires-2 c κs = search needs
 
--- src/messages.rt:112:20
 cast-t14 : tie.Need-cast-t14
 cast-t14 c = search needs
 
--- src/messages.rt:113:23
 cast-t16 : tie.Need-cast-t16
 cast-t16 c = search needs
 
--- src/messages.rt:116:20
 cast-t18 : tie.Need-cast-t18
 cast-t18 c = search needs
 
--- src/messages.rt:117:20
 cast-t20 : tie.Need-cast-t20
 cast-t20 c = search needs
 
--- src/messages.rt:118:20
 cast-t22 : tie.Need-cast-t22
 cast-t22 c = search needs
 
--- src/messages.rt:90:1
 returns : tie.Need-returns
 unfolding messageOf
 returns c =
     let at-match = c .match in
-    simp ((at-match .keys1))
+    simp (at-match .keys1)
 
--- src/messages.rt:90:1
 returns-2 : tie.Need-returns-2
 unfolding messageOf
 returns-2 c =
     let at-match = c .before .match in
     let at-lock-of = c .lock-of in
-    simp ((at-match .keys2), (at-lock-of .ensures))
+    simp (at-match .keys2, at-lock-of .ensures)
 
--- src/messages.rt:90:1
 returns-3 : tie.Need-returns-3
 unfolding messageOf
 returns-3 c =
     let at-match = c .match in
-    simp ((at-match .keys3))
+    simp (at-match .keys3)
 
--- src/messages.rt:90:1
 returns-4 : tie.Need-returns-4
 unfolding messageOf
 returns-4 c =
     let at-match = c .before .match in
     let at-lock-of2 = c .lock-of2 in
-    simp ((at-match .keys4), (at-lock-of2 .ensures))
+    simp (at-match .keys4, at-lock-of2 .ensures)
 
--- src/messages.rt:90:1
 returns-5 : tie.Need-returns-5
 unfolding messageOf
 returns-5 c =
     let at-match = c .match in
-    simp ((at-match .keys5))
+    simp (at-match .keys5)
 
--- src/messages.rt:90:1
 returns-6 : tie.Need-returns-6
 unfolding messageOf
 returns-6 c =
     let at-match = c .match in
-    simp ((at-match .keys6))
+    simp (at-match .keys6)
 
--- src/messages.rt:90:1
 returns-7 : tie.Need-returns-7
 unfolding messageOf
 returns-7 c =
     let at-match = c .match in
-    simp ((at-match .keys7))
+    simp (at-match .keys7)
 
--- src/messages.rt:90:1
 returns-8 : tie.Need-returns-8
 unfolding messageOf
 returns-8 c =
     let at-match = c .match in
-    simp ((at-match .keys8))
+    simp (at-match .keys8)
 
--- src/messages.rt:90:1
 returns-9 : tie.Need-returns-9
 unfolding messageOf
 returns-9 c =

@@ -7,24 +7,16 @@ use Rattle.flat.specs.Messages.{numbersFit}
 use borrow.Author.Needs.{needs}
 use Rattle.flat.proofs.messages.numbers_fit.Statement.{statement}
 use Rattle.flat.proofs.messages.numbers_fit.Tie as tie
-use Rattle.flat.proofs.messages.numbers_fit.Reads as reads
-use Rattle.flat.proofs.messages.numbers_fit.Lts as lts
-use Rattle.flat.proofs.messages.first_most.Reads as first-most-reads
-use Rattle.flat.proofs.messages.second_most.Reads as second-most-reads
-use Rattle.flat.proofs.messages.third_most.Reads as third-most-reads
 
--- src/messages.rt:59:9
 returns : tie.Need-returns
 unfolding numbersFit
 returns c =
     let at-if1 = c .if1 in
     simp (lt-leb _ _ (at-if1 .taken))
 
--- src/messages.rt:61:8
 first-most-requires : tie.Need-first-most-requires
 first-most-requires c κs = search needs
 
--- src/messages.rt:62:9
 returns-2 : tie.Need-returns-2
 unfolding numbersFit
 returns-2 c =
@@ -33,11 +25,9 @@ returns-2 c =
     let at-if2 = c .if2 in
     simp (le-leb _ _ (at-if1 .left), ← (at-first-most .ensures), lt-leb _ _ (at-if2 .taken))
 
--- src/messages.rt:64:8
 second-most-requires : tie.Need-second-most-requires
 second-most-requires c κs = search needs
 
--- src/messages.rt:65:9
 returns-3 : tie.Need-returns-3
 unfolding numbersFit
 returns-3 c =
@@ -48,11 +38,9 @@ returns-3 c =
     let at-if3 = c .if3 in
     simp (le-leb _ _ (at-if1 .left), ← (at-first-most .ensures), le-leb _ _ (at-if2 .left), ← (at-second-most .ensures), lt-leb _ _ (at-if3 .taken))
 
--- src/messages.rt:67:22
 third-most-requires : tie.Need-third-most-requires
 third-most-requires c κs = search needs
 
--- src/messages.rt:54:1
 returns-4 : tie.Need-returns-4
 unfolding numbersFit
 returns-4 c =

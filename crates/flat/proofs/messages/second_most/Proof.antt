@@ -2,45 +2,37 @@ use borrow.Author.Tests.{ne-eqb}
 use Rattle.flat.specs.Messages.{secondMost}
 use Rattle.flat.proofs.messages.second_most.Statement.{statement}
 use Rattle.flat.proofs.messages.second_most.Tie as tie
-use Rattle.flat.proofs.messages.second_most.Reads as reads
-use Rattle.flat.proofs.messages.second_most.Lts as lts
 
--- src/messages.rt:31:1
 returns : tie.Need-returns
 unfolding secondMost
 returns c =
     let at-match = c .match in
-    simp ((at-match .keys1))
+    simp (at-match .keys1)
 
--- src/messages.rt:31:1
 returns-2 : tie.Need-returns-2
 unfolding secondMost
 returns-2 c =
     let at-match = c .match in
-    simp ((at-match .keys2))
+    simp (at-match .keys2)
 
--- src/messages.rt:31:1
 returns-3 : tie.Need-returns-3
 unfolding secondMost
 returns-3 c =
     let at-match = c .match in
-    simp ((at-match .keys3))
+    simp (at-match .keys3)
 
--- src/messages.rt:31:1
 returns-4 : tie.Need-returns-4
 unfolding secondMost
 returns-4 c =
     let at-match = c .match in
-    simp ((at-match .keys4))
+    simp (at-match .keys4)
 
--- src/messages.rt:31:1
 returns-5 : tie.Need-returns-5
 unfolding secondMost
 returns-5 c =
     let at-match = c .match in
-    simp ((at-match .keys5))
+    simp (at-match .keys5)
 
--- src/messages.rt:31:1
 returns-6 : tie.Need-returns-6
 unfolding secondMost
 returns-6 c =

@@ -2,17 +2,13 @@ use borrow.Author.Tests.{ne-eqb}
 use Rattle.flat.specs.Messages.{thirdMost}
 use Rattle.flat.proofs.messages.third_most.Statement.{statement}
 use Rattle.flat.proofs.messages.third_most.Tie as tie
-use Rattle.flat.proofs.messages.third_most.Reads as reads
-use Rattle.flat.proofs.messages.third_most.Lts as lts
 
--- src/messages.rt:44:1
 returns : tie.Need-returns
 unfolding thirdMost
 returns c =
     let at-match = c .match in
-    simp ((at-match .keys1))
+    simp (at-match .keys1)
 
--- src/messages.rt:44:1
 returns-2 : tie.Need-returns-2
 unfolding thirdMost
 returns-2 c =
