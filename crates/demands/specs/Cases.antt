@@ -14,7 +14,7 @@ use Rattle.header.specs.Calls.{levelOf}
 use Rattle.header.specs.Header.{fieldBytes}
 use Rattle.header.specs.declared.Header.{Header}
 use Rattle.header.specs.declared.FrameKind.the-variants.{Idle, Data}
-use Rattle.header.specs.declared.FastChannel.the-variants.{Absent, Version}
+use Rattle.fast_channel.specs.declared.FastChannel.the-variants.{Absent, Version}
 use Rattle.frame.specs.Frame.{preamble}
 use Rattle.packing.specs.Filling.{area}
 

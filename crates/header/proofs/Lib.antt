@@ -2,7 +2,6 @@ pub mod Theorems
 pub mod Calls
 pub mod Sent
 pub mod Received
-pub mod Channel
 pub mod Bits
 pub mod Numbers
 pub mod Bytes

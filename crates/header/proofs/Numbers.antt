@@ -8,7 +8,7 @@ use lib.ListN.{length, getD, take}
 use lib.Seq.{ext-getD, getD-take, length-take-le, take-all}
 use Rattle.basics.specs.Lists.{Bytes, entries}
 use Rattle.basics.proofs.Lists.{entries-length, entries-at}
-use Rattle.header.specs.Numbers.{lowFirst, numberAt}
+use Rattle.basics.specs.Numbers.{lowFirst, numberAt}
 
 number-behind : (i n b : ℕ) (l : List ℕ) → numberAt (suc i) n (b ∷ l) ≡ numberAt i n l
 number-behind i zero b l = refl

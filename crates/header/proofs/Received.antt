@@ -10,11 +10,11 @@ use lib.ListN.{length, getD}
 use Rattle.basics.specs.Lists.{Bytes, entries}
 use Rattle.lent.proofs.Outcome.{gate}
 use Rattle.crc.specs.Crc.{crc-16}
-use Rattle.header.specs.Numbers.{numberAt}
-use Rattle.header.specs.FastChannel.{messageOf, payloadRule}
+use Rattle.basics.specs.Numbers.{numberAt}
+use Rattle.fast_channel.specs.FastChannel.{messageOf, payloadRule}
 use Rattle.header.specs.Header.{fieldBytes, headerBytes, rxfnRule, headerFits, fieldsOf, headerOf, sumHolds, reservedOnes, rulesHold, headerRefusal}
 use Rattle.header.proofs.Numbers.{byte, byte-at, bytes-of-number, number-lt, entries-front, entries-all}
-use Rattle.header.proofs.Channel.{Carries, message-carries}
+use Rattle.fast_channel.proofs.Channel.{Carries, message-carries}
 use Rattle.header.proofs.Bits.{d4-again}
 use Rattle.header.proofs.Sent.{fits-header}
 

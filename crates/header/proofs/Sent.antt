@@ -6,13 +6,13 @@ use native.Mathlib.Omega.{arith}
 use borrow.Author.Tests.{ltb-true, lt-ltb, le-leb, eq-eqb}
 use Rattle.crc.specs.Crc.{crc-16}
 use Rattle.crc.proofs.Bytes.{crc-16-lt}
-use Rattle.header.specs.Numbers.{fits}
-use Rattle.header.specs.FastChannel.{opcodeOf, payloadOf, messageFits}
+use Rattle.basics.specs.Numbers.{fitsBits}
+use Rattle.fast_channel.specs.FastChannel.{opcodeOf, payloadOf, messageFits}
 use Rattle.header.specs.Header.{flagsByte, channelByte, fieldBytes, headerBytes, rxfnRule, fieldsFit, headerFits, fieldsOf, headerOf, sumHolds, reservedOnes, rulesHold, headerRefusal}
-use Rattle.header.specs.declared.FastChannel.{FastChannel}
+use Rattle.fast_channel.specs.declared.FastChannel.{FastChannel}
 use Rattle.header.specs.declared.Header.{Header}
 use Rattle.header.proofs.Numbers.{number-of-bytes}
-use Rattle.header.proofs.Channel.{message-back, rule-kept, payload-lt, opcode-lt}
+use Rattle.fast_channel.proofs.Channel.{message-back, rule-kept, payload-lt, opcode-lt}
 use Rattle.header.proofs.Bits.{d4-ack, d4-valid, d4-kind}
 
 -- what a header that may be sent has, field by field
@@ -29,12 +29,12 @@ pub sendable : (header : Header) → headerFits header ≡ true → Sendable hea
 unfolding fieldsFit
 sendable header e =
     let f = header .fields in
-    let all = and-eq-true-iff (fits 16 (header .txfn .0)) (fieldsFit f) .0 e in
+    let all = and-eq-true-iff (fitsBits 16 (header .txfn .0)) (fieldsFit f) .0 e in
     let to-message = and-eq-true-iff _ (messageFits (f .message)) .0 (all .1) in
-    let to-applies = and-eq-true-iff _ (fits 3 (f .applies)) .0 (to-message .0) in
-    let to-seconds = and-eq-true-iff _ (fits 6 (f .seconds)) .0 (to-applies .0) in
-    let to-stamp = and-eq-true-iff _ (fits 40 (f .stamp)) .0 (to-seconds .0) in
-    let to-rxfn = and-eq-true-iff (rxfnRule (f .valid) (f .rxfn .0)) (fits 16 (f .rxfn .0)) .0 (to-stamp .0) in
+    let to-applies = and-eq-true-iff _ (fitsBits 3 (f .applies)) .0 (to-message .0) in
+    let to-seconds = and-eq-true-iff _ (fitsBits 6 (f .seconds)) .0 (to-applies .0) in
+    let to-stamp = and-eq-true-iff _ (fitsBits 40 (f .stamp)) .0 (to-seconds .0) in
+    let to-rxfn = and-eq-true-iff (rxfnRule (f .valid) (f .rxfn .0)) (fitsBits 16 (f .rxfn .0)) .0 (to-stamp .0) in
     record {
       txfn-lt = ltb-true _ 65536 (all .0);
       rule = to-rxfn .0;

@@ -5,11 +5,11 @@ use Prim.Native.Nat.{ℕ, _+_, _*_, _/_, _%_}
 use lib.Dec.{eqb, leb}
 use lib.ListN.{getD, take}
 use Rattle.crc.specs.Crc.{crc-16}
-use Rattle.header.specs.Numbers.{fits, lowFirst, numberAt}
-use Rattle.header.specs.FastChannel.{opcodeOf, payloadOf, messageFits, messageOf, payloadRule}
+use Rattle.basics.specs.Numbers.{fitsBits, lowFirst, numberAt}
+use Rattle.fast_channel.specs.FastChannel.{opcodeOf, payloadOf, messageFits, messageOf, payloadRule}
 use Rattle.header.specs.declared.FrameKind.{FrameKind}
 use Rattle.header.specs.declared.FrameKind.the-variants.{Idle, Data, Type2, Type3}
-use Rattle.header.specs.declared.FastChannel.{FastChannel}
+use Rattle.fast_channel.specs.declared.FastChannel.{FastChannel}
 use Rattle.header.specs.declared.Fields.{Fields}
 use Rattle.header.specs.declared.Header.{Header}
 
@@ -58,15 +58,15 @@ rxfnRule valid rxfn = valid || eqb rxfn 0
 unfoldable pub fieldsFit : Fields → Bool
 fieldsFit fields =
     rxfnRule (fields .valid) (fields .rxfn .0)
-    && fits 16 (fields .rxfn .0)
-    && fits 40 (fields .stamp)
-    && fits 6 (fields .seconds)
-    && fits 3 (fields .applies)
+    && fitsBits 16 (fields .rxfn .0)
+    && fitsBits 40 (fields .stamp)
+    && fitsBits 6 (fields .seconds)
+    && fitsBits 3 (fields .applies)
     && messageFits (fields .message)
 
 -- the header may be sent
 abbrev pub headerFits : Header → Bool
-headerFits header = fits 16 (header .txfn .0) && fieldsFit (header .fields)
+headerFits header = fitsBits 16 (header .txfn .0) && fieldsFit (header .fields)
 
 -- ---- received
 

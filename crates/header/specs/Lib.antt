@@ -1,4 +1,2 @@
 pub mod Calls
 pub mod Header
-pub mod FastChannel
-pub mod Numbers

@@ -2,11 +2,10 @@
 ghost use mathlib.Core.Path.{_≡_};
 ghost use Prim.Native.Nat.{_/_, _%_, _≤_, _<_};
 ghost use Rattle.header.specs.Header.{bit, kindNumber, flagsByte, channelByte, rxfnRule, fieldsFit, fieldBytes, headerBytes};
-use crate::FastChannel;
 use crate::Fields;
 use crate::FrameKind;
 use crate::Header;
-use crate::messages;
+use fast_channel::FastChannel;
 
 fn kind_number(kind: FrameKind) -> u8
     ensures { λ r. ⌜ r ≡ kindNumber kind ⌝ }
@@ -56,7 +55,7 @@ pub fn fields_fit(fields: Fields) -> bool
         return false;
     }
     let message = fields.message;
-    messages::message_fits(message)
+    fast_channel::message_fits(message)
 }
 
 // The byte of a number at a power of 256.
@@ -70,13 +69,13 @@ fn byte(number: u64, power: u64) -> u8
 fn flags_byte(ack: bool, valid: bool, kind: FrameKind) -> u8
     ensures { λ r. ⌜ r ≡ flagsByte ack valid kind ⌝ }
 {
-    240 + 8 * bit_of(ack) + 4 * bit_of(valid) + kind_number(kind)
+    0xF0 + 8 * bit_of(ack) + 4 * bit_of(valid) + kind_number(kind)
 }
 
 fn channel_byte(applies: u8, message: FastChannel) -> u8
     ensures { λ r. ⌜ r ≡ channelByte applies message ⌝ }
 {
-    128 + 16 * (applies % 8) + messages::opcode(message) % 16
+    0x80 + 16 * (applies % 8) + fast_channel::opcode(message) % 16
 }
 
 // d0 to d13. A number too large for its field is cut off.
@@ -89,7 +88,7 @@ fn field_bytes(header: Header) -> [u8; 14]
     let rxfn = fields.rxfn.0 as u64;
     let stamp = fields.stamp;
     let message = fields.message;
-    let payload = messages::payload(message) as u64;
+    let payload = fast_channel::payload(message) as u64;
     [
         byte(txfn, 1),
         byte(txfn, 256),
@@ -101,7 +100,7 @@ fn field_bytes(header: Header) -> [u8; 14]
         byte(stamp, 65536),
         byte(stamp, 16777216),
         byte(stamp, 4294967296),
-        192 + fields.seconds % 64,
+        0xC0 + fields.seconds % 64,
         channel_byte(fields.applies, message),
         byte(payload, 1),
         byte(payload, 256),

@@ -1,8 +1,8 @@
 // The header of a frame: its fields, its 16 bytes, and what a receiver reads from them (source 000, 2.6.3.3). And the level read-out.
 pub mod coding;
-mod messages;
 pub mod reading;
 
+use fast_channel::FastChannel;
 ghost use mathlib.Core.Path.{_≡_};
 ghost use Rattle.header.specs.Calls.{codeRefusal, CodeHeaderOutcome, readRefusal, readHeader, levelOf};
 ghost use Rattle.basics.specs.Counts.{nextTxfn, missedFrames};
@@ -38,34 +38,6 @@ pub enum FrameKind {
     Data,
     Type2,
     Type3,
-}
-
-// Frame synchronization over the time that a message reports on: lost at least once, or held.
-pub enum Lock {
-    NotLocked,
-    Locked,
-}
-
-// One message of the fast channel, out of nine kinds, with its opcode and the name that Table 2-12 gives it.
-pub enum FastChannel {
-    // 0, LAPC_CRC_ERROR_REPORT: frames with a CRC error in the last second.
-    CrcErrors(u16),
-    // 1, LAPC_RSSI_FAST: the power received in the last 10 ms, 14 bits.
-    ReceivedPower { power: u16, lock: Lock },
-    // 2, LAPC_RSSI_SLOW: the power received in the last second, as codes of `level`.
-    PowerStatistics { mean: u8, deviation: u8 },
-    // 3, LAPC_SYNC_REPORT: how often synchronization was lost in the last second, 14 bits.
-    SyncLosses { losses: u16, lock: Lock },
-    // 4, OISL_SENSITIVITY: the least power that the terminal requires and the greatest that it permits, as codes of `level`.
-    PowerRange { least: u8, greatest: u8 },
-    // 5, OISL_CAPABILITIES: the version of the standard, 5, 5 and 6 bits.
-    Version { major: u8, minor: u8, patch: u8 },
-    // 6, LAPC_FEC_CORRECTED_ERROR_REPORT: frames that needed a correction in the last second.
-    CorrectedFrames(u16),
-    // 7 to 14, RESERVED: the opcode.
-    Reserved(u8),
-    // 15: no message.
-    Absent,
 }
 
 // What a caller gives for a frame: every field but TXFN and the type.

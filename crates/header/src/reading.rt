@@ -3,7 +3,7 @@ ghost use mathlib.Core.Path.{_≡_};
 ghost use mathlib.Core.List.{[], _∷_};
 ghost use Prim.Native.Nat.{_+_, _*_, _≤_};
 ghost use lib.ListN.{length};
-ghost use Rattle.header.specs.Numbers.{numberAt};
+ghost use Rattle.basics.specs.Numbers.{numberAt};
 ghost use Rattle.header.specs.Header.{kindOf, fieldsOf, headerOf, sumHolds, reservedOnes, rulesHold, headerRefusal};
 use crate::Fields;
 use crate::FrameKind;
@@ -11,7 +11,6 @@ use crate::Header;
 use crate::Rxfn;
 use crate::Txfn;
 use crate::coding;
-use crate::messages;
 
 fn kind_of(number: u8) -> FrameKind
     ensures { λ r. ⌜ r ≡ kindOf number ⌝ }
@@ -63,13 +62,13 @@ fn reserved_ones(bytes: &[u8]) -> bool
     requires { ⌜ length (now bytes) ≡ 16 ⌝ }
     ensures { λ r. ⌜ r ≡ reservedOnes (now (bytes .entry)) ⌝ }
 {
-    if bytes[4] < 240 {
+    if bytes[4] < 0xF0 {
         return false;
     }
-    if bytes[10] < 192 {
+    if bytes[10] < 0xC0 {
         return false;
     }
-    128 <= bytes[11]
+    0x80 <= bytes[11]
 }
 
 fn rules_hold(bytes: &[u8]) -> bool
@@ -83,7 +82,7 @@ fn rules_hold(bytes: &[u8]) -> bool
     }
     let opcode = bytes[11] % 16;
     let payload = two_at(bytes, 12);
-    messages::payload_rule(opcode, payload)
+    fast_channel::payload_rule(opcode, payload)
 }
 
 // 9, 10 or 11 where the 16 bytes are refused, and 0 where they are read.
@@ -109,7 +108,7 @@ fn fields_of(bytes: &[u8]) -> Fields
 {
     let d4 = bytes[4];
     let d11 = bytes[11];
-    let message = messages::message_of(d11 % 16, two_at(bytes, 12));
+    let message = fast_channel::message_of(d11 % 16, two_at(bytes, 12));
     Fields {
         rxfn: Rxfn(two_at(bytes, 2)),
         ack: d4 / 8 % 2 == 1,

@@ -1,6 +1,6 @@
 // A fast-channel message as the vectors hold it: its kind, 0 to 8, and three numbers, 0 where it has fewer.
-use header::FastChannel;
-use header::Lock;
+use fast_channel::FastChannel;
+use fast_channel::Lock;
 
 pub struct Message {
     pub kind: u8,

@@ -23,15 +23,17 @@ use Rattle.link.proofs.Sender.{cut-queue}
 use Rattle.packing.specs.Filling.{load}
 use Rattle.packing.proofs.Bench.{bench, area-length}
 use Rattle.header.specs.Header.{headerFits, fieldsFit}
-use Rattle.header.specs.Numbers.{fits}
+use Rattle.basics.specs.Numbers.{fitsBits}
 use Rattle.header.specs.declared.Fields.{Fields}
 use Rattle.header.specs.declared.FrameKind.{FrameKind}
 use Rattle.header.specs.declared.FrameKind.the-variants.{Idle, Data}
 use Rattle.header.specs.declared.Header.{Header}
+use Rattle.marks.specs.Queue.{queueIn}
+use Rattle.marks.proofs.Parsed.{queue-is}
 use Rattle.frame.specs.Frame.{preamble, codedHeader, areaPayload, frameBytes}
 use Rattle.frame.proofs.Laws.{body-length}
 use Rattle.scrambler.specs.Scrambler.{scrambled}
-use Rattle.sender.specs.Next.{areaFor, headerFor, leftIn, senderAfter, kindFor, orEmpty, queueIn, nextRefusal, NextOutcome}
+use Rattle.sender.specs.Next.{areaFor, headerFor, leftIn, senderAfter, kindFor, nextRefusal, NextOutcome}
 use Rattle.sender.specs.declared.Sender.{Sender}
 use Rattle.sender.specs.declared.NextAnswer.the-variants.{Sent, Refused}
 use Rattle.lent.proofs.Written.{bytes-written}
@@ -124,10 +126,6 @@ sent-zero n after sender kind kind′ = go (eqb n 0) refl
     go true t e = (eqb-true n 0 t, cc)
     go false t e = let z : _≡_ {A = ℕ} 0 1 = cc in absurd (omega arith)
 
-queue-is : (bytes : List ℕ) (queue : Queue) → parse bytes ≡ some queue → queueIn bytes ≡ queue
-unfolding queueIn
-queue-is bytes queue e = ap orEmpty e
-
 opened-area : (q : Queue) → IsQueue q → (frameFor bench q .area ≡ areaFor q) × (length (areaFor q) ≡ 1908) × (cond (frameFor bench q .isData) Data Idle ≡ kindFor q)
 unfolding bench
 opened-area q h = go (busy q) refl
@@ -170,7 +168,7 @@ next-stands taps fields sender bytes out sender′ kind bytes′ out′ i queue 
     let bytes-queue : Bytes (layout queue) = rw (layout-back (take used bytes) queue (bytes-take used bytes (s .are-bytes)) (s .parsed)) (bytes-take used bytes (s .are-bytes)) in (
       record {
         header = header;
-        fits-header = both-true (fits 16 (sender .next .0)) (fieldsFit fields) (lt-ltb (sender .next .0) 65536 (omega (arith, s .number))) (passed .fits);
+        fits-header = both-true (fitsBits 16 (sender .next .0)) (fieldsFit fields) (lt-ltb (sender .next .0) 65536 (omega (arith, s .number))) (passed .fits);
         counted = s .number;
         kind-is = sym (content .2);
         long = ap length (content .0) ∙ content .1;

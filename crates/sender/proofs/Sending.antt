@@ -23,15 +23,15 @@ use Rattle.header.specs.declared.Fields.{Fields}
 use Rattle.header.specs.declared.Txfn.{Txfn}
 use Rattle.header.specs.declared.FrameKind.{FrameKind}
 use Rattle.header.specs.declared.FrameKind.the-variants.{Idle, Data}
-use Rattle.marks.specs.Queue.{isUsedWhole}
-use Rattle.sender.specs.Next.{kindFor, areaFor, leftIn, queueIn, nextRefusal, NextOutcome}
-use Rattle.sender.specs.Filling.{remaining, FillOutcome}
+use Rattle.marks.specs.Queue.{isUsedWhole, queueIn}
+use Rattle.marks.proofs.Parsed.{whole-parsed}
+use Rattle.sender.specs.Next.{kindFor, areaFor, leftIn, nextRefusal, NextOutcome}
+use Rattle.filling.specs.Filling.{remaining, FillOutcome}
 use Rattle.sender.specs.declared.Sender.{Sender}
 use Rattle.sender.specs.declared.NextAnswer.{NextAnswer}
 use Rattle.sender.specs.declared.NextAnswer.the-variants.{Sent}
-use Rattle.sender.specs.declared.filling.Filled.{Filled}
+use Rattle.filling.specs.declared.Filled.{Filled}
 use Rattle.basics.proofs.Lists.{bytes-take}
-use Rattle.sender.proofs.Taking.{whole-parsed}
 
 pub record NextPassed (taps : ℕ) (fields : Fields) (used : ℕ) (queue out : List ℕ) : Type 0 where
   pub allowed : tapsAllowed taps ≡ true

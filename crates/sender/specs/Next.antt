@@ -1,7 +1,6 @@
 -- Building the next frame (01, "Next frame"), for all inputs. A refusal's number is 0 where nothing is refused (01, "Refusal numbers").
 use mathlib.Core.Path.{_≡_}
 use mathlib.Core.Bool.{cond, _&&_}
-use mathlib.Core.Option.{Option, none, some}
 use mathlib.Core.List.{List}
 use Prim.Native.Nat.{ℕ}
 use lib.Dec.{eqb, leb}
@@ -9,9 +8,9 @@ use lib.ListN.{length, take}
 use Rattle.basics.specs.Lists.{zeros}
 use Rattle.lent.specs.Outcome.{by}
 use Rattle.lent.specs.Written.{written}
-use Rattle.link.specs.Link.{Queue, empty, cut}
+use Rattle.link.specs.Link.{Queue, cut}
 use Rattle.link.specs.Packing.{busy}
-use Rattle.link.specs.Store.{layout, parse}
+use Rattle.link.specs.Store.{layout}
 use Rattle.packing.specs.Filling.{load, area}
 use Rattle.scrambler.specs.Scrambler.{tapsAllowed}
 use Rattle.basics.specs.Counts.{nextTxfn}
@@ -21,7 +20,7 @@ use Rattle.header.specs.declared.FrameKind.{FrameKind}
 use Rattle.header.specs.declared.FrameKind.the-variants.{Idle, Data}
 use Rattle.header.specs.declared.Header.{Header}
 use Rattle.frame.specs.Frame.{frameBytes}
-use Rattle.marks.specs.Queue.{isUsedWhole}
+use Rattle.marks.specs.Queue.{isUsedWhole, queueIn}
 use Rattle.sender.specs.declared.Sender.{Sender}
 use Rattle.sender.specs.declared.NextAnswer.{NextAnswer}
 use Rattle.sender.specs.declared.NextAnswer.the-variants.{Sent, Refused}
@@ -48,14 +47,6 @@ abbrev pub senderAfter : Sender → Queue → Sender
 senderAfter sender queue = record { used = length (layout (leftIn queue)); next = record { 0 = nextTxfn (sender .next .0) } }
 
 -- ---------------------------------------------------------------- the call
-
--- the queue that bytes stand for; where they stand for none the call is refused, and the empty one is not used
-abbrev pub orEmpty : Option Queue → Queue
-orEmpty none = empty
-orEmpty (some queue) = queue
-
-unfoldable pub queueIn : List ℕ → Queue
-queueIn bytes = orEmpty (parse bytes)
 
 -- the lowest number that applies, 0 for none
 unfoldable pub nextRefusal : ℕ → Fields → ℕ → List ℕ → List ℕ → ℕ

@@ -1,6 +1,4 @@
 // The sender: packets are put into a lent queue of 32,768 bytes, and go out frame by frame (01, "Queue" and "Next frame").
-mod filling;
-
 use header::Fields;
 use header::FrameKind;
 use header::Header;

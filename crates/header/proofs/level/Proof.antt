@@ -1,4 +1,6 @@
-use Rattle.header.proofs.Signed.{level-fits, level-read}
+use native.Mathlib.Omega.{arith}
+use Prim.Native.Nat.{_*_}
+use Rattle.header.proofs.Signed.{byte-read, negative-size, level-read}
 use borrow.Author.Needs.{needs}
 use Rattle.header.proofs.level.Statement.{statement}
 use Rattle.header.proofs.level.Tie as tie
@@ -8,15 +10,12 @@ cast-result c = search needs
 
 mul-result : tie.Need-mul-result
 mul-result c =
-    let at-args = c .args in
-    let at-fits = c .fits in
-    level-fits (at-args .code) (at-fits .code .fits)
+    let code = c .args .code in
+    let byte = c .fits .code .fits in
+    record { sfits = rw (byte-read code byte) (omega (arith, negative-size (25086 * code))) }
 
 returns : tie.Need-returns
-returns c =
-    let at-args = c .args in
-    let at-fits = c .fits in
-    level-read (at-args .code) (at-fits .code .fits)
+returns c = level-read (c .args .code) (c .fits .code .fits)
 
 pub level-spec : {M : Type 1} → statement M
 level-spec = tie.close (tie.spec cast-result mul-result returns)

@@ -4,7 +4,7 @@ use lib.Dec.{eqb}
 use lib.ListN.{getD}
 use Prim.Native.Nat.{_/_, _%_}
 use Rattle.lent.proofs.Outcome.{with-test}
-use Rattle.header.specs.FastChannel.{payloadRule}
+use Rattle.fast_channel.specs.FastChannel.{payloadRule}
 use Rattle.header.specs.Header.{rulesHold, rxfnRule}
 use borrow.Author.Needs.{needs}
 use Rattle.header.proofs.reading.rules_hold.Statement.{statement}
