@@ -1,11 +1,10 @@
 -- A header's fields as C has them: bools are 0 or 1, the kind is 0 to 3. What stands for no field is handed to the library as a message that it refuses (6), so that
 -- the number which C gets is the library's, the lowest that applies.
 use mathlib.Core.Bool.{Bool, true, cond, _&&_}
-use Prim.Native.Nat.{ℕ}
 use lib.Dec.{eqb, leb}
 use Rattle.header.specs.Header.{bit, kindNumber, kindOf}
-use Rattle.header.specs.declared.FastChannel.{FastChannel}
-use Rattle.header.specs.declared.FastChannel.the-variants.{Reserved}
+use Rattle.fast_channel.specs.declared.FastChannel.{FastChannel}
+use Rattle.fast_channel.specs.declared.FastChannel.the-variants.{Reserved}
 use Rattle.header.specs.declared.Fields.{Fields}
 use Rattle.header.specs.declared.Header.{Header}
 use Rattle.flat.specs.Messages.{numbersFit, messageOf, flatMessage}

@@ -2,9 +2,9 @@
 use mathlib.Core.Bool.{Bool, cond, _&&_}
 use Prim.Native.Nat.{ℕ, _%_}
 use lib.Dec.{eqb, leb}
-use Rattle.header.specs.FastChannel.{lockNumber, lockOf}
-use Rattle.header.specs.declared.FastChannel.{FastChannel}
-use Rattle.header.specs.declared.FastChannel.the-variants.{CrcErrors, ReceivedPower, PowerStatistics, SyncLosses, PowerRange, Version, CorrectedFrames, Reserved, Absent}
+use Rattle.fast_channel.specs.FastChannel.{lockNumber, lockOf}
+use Rattle.fast_channel.specs.declared.FastChannel.{FastChannel}
+use Rattle.fast_channel.specs.declared.FastChannel.the-variants.{CrcErrors, ReceivedPower, PowerStatistics, SyncLosses, PowerRange, Version, CorrectedFrames, Reserved, Absent}
 use Rattle.flat.specs.declared.messages.FlatMessage.{FlatMessage}
 
 -- ---- to C

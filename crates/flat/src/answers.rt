@@ -5,11 +5,12 @@ use crate::states;
 use crate::states::FlatSender;
 use header::CodeAnswer;
 use header::ReadAnswer;
+use list::EntryAnswer;
 use sender::NextAnswer;
 use sender::PutAnswer;
 ghost use mathlib.Core.Path.{_≡_};
 ghost use Rattle.header.specs.Calls.{codeNumber};
-ghost use Rattle.flat.specs.Answers.{flatPut, flatNext, flatRead};
+ghost use Rattle.flat.specs.Answers.{flatPut, flatNext, flatRead, flatEntry, flatPacket};
 
 #[repr(C)]
 pub struct FlatPut {
@@ -28,6 +29,22 @@ pub struct FlatNext {
 pub struct FlatRead {
     pub header: FlatHeader,
     pub refusal: u8,
+}
+
+#[repr(C)]
+pub struct FlatEntry {
+    pub start: usize,
+    pub length: usize,
+    pub next: usize,
+    pub found: u8,
+    pub refusal: u8,
+}
+
+// Where a packet stands in the caller's list.
+#[repr(C)]
+pub struct FlatPacket {
+    pub start: usize,
+    pub length: usize,
 }
 
 pub fn flat_put(given: FlatSender, answer: PutAnswer) -> FlatPut
@@ -82,6 +99,58 @@ pub fn flat_read(answer: ReadAnswer) -> FlatRead
         ReadAnswer::Refused(number) => FlatRead {
             header: headers::no_header(),
             refusal: number,
+        },
+    }
+}
+
+pub fn flat_entry(answer: EntryAnswer) -> FlatEntry
+    ensures { λ r. ⌜ r ≡ flatEntry answer ⌝ }
+{
+    match answer {
+        EntryAnswer::Packet {
+            start,
+            length,
+            next,
+        } => FlatEntry {
+            start,
+            length,
+            next,
+            found: 1,
+            refusal: 0,
+        },
+        EntryAnswer::End => FlatEntry {
+            start: 0,
+            length: 0,
+            next: 0,
+            found: 0,
+            refusal: 0,
+        },
+        EntryAnswer::Refused(number) => FlatEntry {
+            start: 0,
+            length: 0,
+            next: 0,
+            found: 0,
+            refusal: number,
+        },
+    }
+}
+
+pub fn flat_packet(answer: EntryAnswer) -> FlatPacket
+    ensures { λ r. ⌜ r ≡ flatPacket answer ⌝ }
+{
+    match answer {
+        EntryAnswer::Packet {
+            start,
+            length,
+            next: _,
+        } => FlatPacket { start, length },
+        EntryAnswer::End => FlatPacket {
+            start: 0,
+            length: 0,
+        },
+        EntryAnswer::Refused(_) => FlatPacket {
+            start: 0,
+            length: 0,
         },
     }
 }

@@ -1,7 +1,7 @@
 // A header's fields: bools and the kind are numbers, and a number that stands for none is refused as a field to send (6).
 use crate::messages;
 use crate::messages::FlatMessage;
-use header::FastChannel;
+use fast_channel::FastChannel;
 use header::Fields;
 use header::FrameKind;
 use header::Header;

@@ -1,8 +1,8 @@
 // A message of the fast channel: its opcode and up to three numbers. Numbers that a message does not have are 0.
-use header::FastChannel;
-use header::Lock;
+use fast_channel::FastChannel;
+use fast_channel::Lock;
 ghost use mathlib.Core.Path.{_≡_};
-ghost use Rattle.header.specs.FastChannel.{lockNumber, lockOf};
+ghost use Rattle.fast_channel.specs.FastChannel.{lockNumber, lockOf};
 ghost use Rattle.flat.specs.Messages.{firstMost, secondMost, thirdMost, numbersFit, messageOf, flatMessage};
 
 #[repr(C)]

@@ -1,6 +1,8 @@
 // The calls for C: each is one call of the library, on what C's numbers stand for, and its answer as numbers. include/taqwelim.h declares them.
 use flat::answers;
+use flat::answers::FlatEntry;
 use flat::answers::FlatNext;
+use flat::answers::FlatPacket;
 use flat::answers::FlatPut;
 use flat::answers::FlatRead;
 use flat::headers;
@@ -11,9 +13,10 @@ use flat::states::FlatSender;
 use sender::Sender;
 ghost use mathlib.Core.Path.{_≡_};
 ghost use Rattle.header.specs.Calls.{readHeader, levelOf};
+ghost use Rattle.list.specs.Reading.{entryAnswer};
 ghost use Rattle.sender.specs.Put.{freshSender};
 ghost use Rattle.flat.specs.States.{flatSender};
-ghost use Rattle.flat.specs.Answers.{flatRead};
+ghost use Rattle.flat.specs.Answers.{flatRead, flatEntry, flatPacket};
 ghost use Rattle.taqwelim.specs.Calls.{PutCall, NextCall, CodeCall};
 
 #[no_mangle]
@@ -51,6 +54,22 @@ pub extern "C" fn taqwelim_next_frame(
         out,
     );
     answers::flat_next(sender, answer)
+}
+
+// Refusal: 16.
+#[no_mangle]
+pub extern "C" fn taqwelim_entry(list: &[u8], position: usize) -> FlatEntry
+    ensures { λ r. ⌜ r ≡ flatEntry (entryAnswer (now (list .entry)) position) ⌝ }
+{
+    answers::flat_entry(list::entry(list, position))
+}
+
+// The place of the packet alone; `packet-placed` in flat/proofs/Packets.antt: these are the bytes that the library's `packet` hands back.
+#[no_mangle]
+pub extern "C" fn taqwelim_packet(list: &[u8], position: usize) -> FlatPacket
+    ensures { λ r. ⌜ r ≡ flatPacket (entryAnswer (now (list .entry)) position) ⌝ }
+{
+    answers::flat_packet(list::entry(list, position))
 }
 
 // Refusals: 2, 6.
