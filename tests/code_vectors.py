@@ -11,9 +11,8 @@
     9  scrambled       4 bytes of taps, bytes, the bytes scrambled
 """
 
-import second_coder as coder
-from records import changed, one_bit, record
-from second_coder import Numbers
+from coder import codes
+from records import Numbers, changed, one_bit, record
 
 # 01, Numbers to try: the first 14 bytes of two headers.
 HEADERS = [
@@ -27,39 +26,39 @@ HEADERS = [
 
 
 def crc_16(message):
-    return record(1, message, coder.crc_16(message).to_bytes(2, "big"))
+    return record(1, message, codes.crc_16(message).to_bytes(2, "big"))
 
 
 def crc_32(message):
-    return record(2, message, coder.crc_32(message).to_bytes(4, "big"))
+    return record(2, message, codes.crc_32(message).to_bytes(4, "big"))
 
 
 def power(exponent):
-    return record(3, bytes([exponent, coder.power(exponent)]))
+    return record(3, bytes([exponent, codes.power(exponent)]))
 
 
 def parity(data):
-    return record(4, data, coder.parity(data))
+    return record(4, data, codes.parity(data))
 
 
 def codeword(word):
-    return record(5, word, bytes([coder.is_codeword(word)]))
+    return record(5, word, bytes([codes.is_codeword(word)]))
 
 
 def payload_coded(payload):
-    return record(6, payload, coder.code_payload(payload[: coder.PAYLOAD_DATA]))
+    return record(6, payload, codes.code_payload(payload[: codes.PAYLOAD_DATA]))
 
 
 def payload_judged(payload):
-    return record(7, payload, bytes([coder.are_codewords(payload)]))
+    return record(7, payload, bytes([codes.are_codewords(payload)]))
 
 
 def taps_judged(taps):
-    return record(8, taps.to_bytes(4, "big"), bytes([coder.are_taps(taps)]))
+    return record(8, taps.to_bytes(4, "big"), bytes([codes.are_taps(taps)]))
 
 
 def scrambled(taps, message):
-    return record(9, taps.to_bytes(4, "big"), message, coder.scramble(taps, message))
+    return record(9, taps.to_bytes(4, "big"), message, codes.scramble(taps, message))
 
 
 # ---------------------------------------------------------------------------------------------------------------------
@@ -73,8 +72,8 @@ def check_sum_records():
     numbers = Numbers(1)
     short = [b"", b"\x00", b"\x01", b"\x80", b"\xff", b"123456789", *HEADERS, bytes(14), b"\xff" * 14]
     random = [numbers.bytes(14) for _ in range(10)] + [numbers.bytes(length) for length in LENGTHS]
-    area = [bytes(coder.AREA), b"\xff" * coder.AREA, numbers.bytes(coder.AREA), numbers.bytes(coder.AREA)]
-    for message in short + random + area + [numbers.bytes(coder.PAYLOAD_DATA)]:
+    area = [bytes(codes.AREA), b"\xff" * codes.AREA, numbers.bytes(codes.AREA), numbers.bytes(codes.AREA)]
+    for message in short + random + area + [numbers.bytes(codes.PAYLOAD_DATA)]:
         yield crc_32(message)
     for message in short + random + area[2:]:
         yield crc_16(message)
@@ -104,12 +103,12 @@ def words(numbers):
     """Codewords: whole ones, coded headers and other lengths."""
     for length in [239] * 8 + [16] * 8 + [1, 2, 84, 200]:
         data = numbers.bytes(length)
-        yield data + coder.parity(data)
+        yield data + codes.parity(data)
 
 
 def codeword_records():
     numbers = Numbers(3)
-    generator = bytes(coder.GENERATOR)
+    generator = bytes(codes.GENERATOR)
     for word in [bytes(16), bytes(255), generator, generator + bytes(15), bytes(238) + generator]:
         yield codeword(word)
     for word in words(numbers):
@@ -124,9 +123,9 @@ def near_codewords(numbers):
     """Words of codes with other roots; and a right word turned about. Turned round or moved round as a whole it stays
     a codeword, since the generator reads the same from both ends and divides x^255 - 1; otherwise it does not."""
     data = numbers.bytes(239)
-    parity_bytes = coder.parity(data)
-    yield codeword(data + coder.parity(data, coder.generator_of([coder.power(j) for j in range(120, 136)])))
-    yield codeword(data + coder.parity(data, coder.generator_of([coder.power(11 * j) for j in range(119, 135)])))
+    parity_bytes = codes.parity(data)
+    yield codeword(data + codes.parity(data, codes.generator_of([codes.power(j) for j in range(120, 136)])))
+    yield codeword(data + codes.parity(data, codes.generator_of([codes.power(11 * j) for j in range(119, 135)])))
     yield codeword(data + parity_bytes[::-1])
     yield codeword(parity_bytes + data)
     yield codeword((data + parity_bytes)[::-1])
@@ -136,19 +135,19 @@ def near_codewords(numbers):
 
 def payloads(numbers):
     """Payloads as they are sent: an area, its CRC-32, and the parity of the eight words."""
-    for area in [bytes(coder.AREA), changed(bytes(coder.AREA), 0, 0xC0), numbers.bytes(coder.AREA)]:
-        yield coder.code_payload(coder.payload_data_of(area))
+    for area in [bytes(codes.AREA), changed(bytes(codes.AREA), 0, 0xC0), numbers.bytes(codes.AREA)]:
+        yield codes.code_payload(codes.payload_data_of(area))
 
 
 def in_blocks(data):
     """The slip that 01 expects: eight blocks of 239 bytes in a row, and their parities in a row."""
-    blocks = [data[239 * k : 239 * k + 239] for k in range(coder.WORDS)]
-    return data + b"".join(coder.parity(block) for block in blocks)
+    blocks = [data[239 * k : 239 * k + 239] for k in range(codes.WORDS)]
+    return data + b"".join(codes.parity(block) for block in blocks)
 
 
 def parity_in_blocks(data):
     """Every eighth byte to a word, but the parities in a row."""
-    return data + b"".join(coder.parity(data[k :: coder.WORDS]) for k in range(coder.WORDS))
+    return data + b"".join(codes.parity(data[k :: codes.WORDS]) for k in range(codes.WORDS))
 
 
 def payload_records():
@@ -157,17 +156,17 @@ def payload_records():
     numbers = Numbers(4)
     whole = list(payloads(numbers))
     for payload in whole:
-        yield payload_coded(payload[: coder.PAYLOAD_DATA] + numbers.bytes(128))
+        yield payload_coded(payload[: codes.PAYLOAD_DATA] + numbers.bytes(128))
         yield payload_judged(payload)
     yield payload_coded(whole[2])
-    yield payload_coded(b"\xff" * coder.PAYLOAD)
-    for place in range(coder.WORDS):
-        yield payload_coded(changed(bytes(coder.PAYLOAD), 1904 + place, 1 + numbers.below(255)))
-    in_each_word = [word + coder.WORDS * numbers.below(255) for word in range(1, coder.WORDS - 1)]
+    yield payload_coded(b"\xff" * codes.PAYLOAD)
+    for place in range(codes.WORDS):
+        yield payload_coded(changed(bytes(codes.PAYLOAD), 1904 + place, 1 + numbers.below(255)))
+    in_each_word = [word + codes.WORDS * numbers.below(255) for word in range(1, codes.WORDS - 1)]
     for place in [0, 1911, 1912, 2039] + in_each_word:
         yield payload_judged(changed(whole[2], place, 1 + numbers.below(255)))
-    data = whole[2][: coder.PAYLOAD_DATA]
-    for payload in [in_blocks(data), parity_in_blocks(data), bytes(coder.PAYLOAD)]:
+    data = whole[2][: codes.PAYLOAD_DATA]
+    for payload in [in_blocks(data), parity_in_blocks(data), bytes(codes.PAYLOAD)]:
         yield payload_judged(payload)
     for payload in [b"", bytes(255), whole[2][:-1], whole[2][1:], whole[2] + b"\x00", b"\x00" + whole[2]]:
         yield payload_judged(payload)
@@ -186,7 +185,7 @@ def taps_records():
 def scrambler_records():
     """Zeros show the key itself. Each tap beside tap 0 alone, all taps, none but tap 0, and taps at random."""
     numbers = Numbers(6)
-    for taps in [1, 2**25 - 1] + [1 + 2**i for i in range(1, coder.STAGES)]:
+    for taps in [1, 2**25 - 1] + [1 + 2**i for i in range(1, codes.STAGES)]:
         yield scrambled(taps, bytes(24))
     for taps in [0b1001, 0b0011]:
         for length in range(6):

@@ -10,7 +10,8 @@ zeros in front as `pad` says. Where it is not installed this says so, and is no 
 import ctypes
 import ctypes.util
 
-import second_coder as coder
+from coder import codes
+from records import Numbers
 
 DATA = 239
 
@@ -68,12 +69,12 @@ def compare(fec, numbers, length, tally):
     it none and that libfec leads it back to the second coder's word."""
     code = Code(fec, length)
     data = numbers.bytes(length)
-    word = data + coder.parity(data)
-    tally["parities"].append(code.parity(data) == coder.parity(data))
-    tally["codewords"].append(coder.is_codeword(word) and code.repaired(word) == (0, word))
+    word = data + codes.parity(data)
+    tally["parities"].append(code.parity(data) == codes.parity(data))
+    tally["codewords"].append(codes.is_codeword(word) and code.repaired(word) == (0, word))
     for count in [1, 1 + numbers.below(8)]:
         wrong = damaged(numbers, word, count)
-        tally["damaged words"].append(not coder.is_codeword(wrong) and code.repaired(wrong) == (count, word))
+        tally["damaged words"].append(not codes.is_codeword(wrong) and code.repaired(wrong) == (count, word))
     code.free()
 
 
@@ -82,7 +83,7 @@ def main():
     if fec is None:
         print("libfec: skipped, it is not installed (Debian: libfec0)")
         return
-    numbers = coder.Numbers(314159)
+    numbers = Numbers(314159)
     tally = {"parities": [], "codewords": [], "damaged words": []}
     for length in [*range(1, DATA + 1)] + [16] * 40 + [DATA] * 40:
         compare(fec, numbers, length, tally)

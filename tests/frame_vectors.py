@@ -13,13 +13,14 @@ bytes that were lent as they were.
 from itertools import combinations
 from typing import NamedTuple
 
-import second_coder as coder
-import second_frames as frames
 from code_vectors import in_blocks
+from coder import codes, frames
 from header_vectors import EDGES, KINDS, TYPES, fields, some_header
-from records import changed, record, with_bit_changed
-from second_coder import AREA, Numbers
-from second_frames import FRAME, PREAMBLE, Header
+from records import Numbers, changed, changes, record, with_bit_changed
+
+AREA = codes.AREA
+FRAME = frames.FRAME
+PREAMBLE = frames.PREAMBLE
 
 BENCH_TAPS = 0b1001
 ALL_TAPS = 2**25 - 1
@@ -29,7 +30,7 @@ class Sent(NamedTuple):
     """What a frame is made of."""
 
     taps: int
-    header: Header
+    header: frames.Header
     pattern: bytes
 
     @property
@@ -58,9 +59,8 @@ def refused(number, at_hand, taps, frame, room=AREA):
     """The number is the one that is meant; the second coder has to find it too."""
     found, _, _ = frames.open_frame(taps, frame, room)
     assert found == number, (found, number)
-    changes = [place.to_bytes(2, "big") + bytes([a ^ b]) for place, (a, b) in enumerate(zip(at_hand, frame)) if a != b]
     sizes = len(frame).to_bytes(2, "big") + room.to_bytes(2, "big")
-    return record(15, taps.to_bytes(4, "big"), sizes, bytes([number]), *changes)
+    return record(15, taps.to_bytes(4, "big"), sizes, bytes([number]), changes(at_hand, frame))
 
 
 # ---------------------------------------------------------------------------------------------------------------------
@@ -98,7 +98,7 @@ def sent_frames(numbers):
             for turn in range(7):
                 pattern = some_pattern(numbers, turn + kind + frame_type)
                 yield Sent(taps[turn], some_header(numbers, frame_type, kind), pattern)
-    for tap in range(1, coder.STAGES):
+    for tap in range(1, codes.STAGES):
         yield Sent(1 + 2**tap, some_header(numbers, tap % 4, tap % 9), some_pattern(numbers, tap))
     for turn, header in enumerate(EDGES):
         yield Sent(numbers.taps(), header, some_pattern(numbers, turn))
@@ -126,8 +126,8 @@ def damaged(sent, damage):
     fourteen = through("fourteen", frames.header_bytes(sent.header)[:14])
     sixteen = through("sixteen", frames.with_check(fourteen))
     coded = through("coded", frames.coded_header(sixteen))
-    data = through("data", coder.payload_data_of(sent.area))
-    payload = through("payload", coder.code_payload(data))
+    data = through("data", codes.payload_data_of(sent.area))
+    payload = through("payload", codes.code_payload(data))
     return frames.frame_of(sent.taps, coded, payload, through("preamble", PREAMBLE))
 
 
@@ -170,7 +170,7 @@ def some_damage(numbers):
         9: flip("sixteen", 14 + numbers.below(2), some()),
         10: reserved_bits()[numbers.below(7)],
         11: set_fields(ACK__valid=0, RXFN=some()),
-        12: flip("payload", numbers.below(coder.PAYLOAD), some()),
+        12: flip("payload", numbers.below(codes.PAYLOAD), some()),
         13: flip("data", AREA + numbers.below(4), some()),
     }
 
@@ -188,9 +188,9 @@ def damage_of_each_number(numbers, rules):
         yield 10, damage
     for damage in rules:
         yield 11, damage
-    for word in range(coder.WORDS):
-        yield 12, flip("payload", word + coder.WORDS * numbers.below(255), 1 + numbers.below(255))
-    for place in [0, AREA, coder.PAYLOAD_DATA, coder.PAYLOAD - 1]:
+    for word in range(codes.WORDS):
+        yield 12, flip("payload", word + codes.WORDS * numbers.below(255), 1 + numbers.below(255))
+    for place in [0, AREA, codes.PAYLOAD_DATA, codes.PAYLOAD - 1]:
         yield 12, flip("payload", place, 1 << numbers.below(8))
     yield 13, ("data", lambda part: part[:AREA] + part[: AREA - 1 : -1])
     for place in [0, numbers.below(AREA), AREA - 1, AREA, AREA + 3]:
@@ -246,7 +246,7 @@ def lowest_records():
 def restarted(sent, frame):
     """The payload scrambled from a restarted register."""
     _, payload = frames.parts_of(sent.taps, frame)
-    return frame[: FRAME - coder.PAYLOAD] + coder.scramble(sent.taps, payload)
+    return frame[: FRAME - codes.PAYLOAD] + codes.scramble(sent.taps, payload)
 
 
 def slip_records():
@@ -259,12 +259,12 @@ def slip_records():
         yield refused(7, frame, sent.taps, damaged(sent, [damage]))
     for place in range(frames.CODED_HEADER):
         yield refused(8, frame, sent.taps, damaged(sent, [flip("coded", place, 1 + numbers.below(255))]))
-    zeros_behind = "coded", lambda part: part[:16] + coder.parity(part[:16] + bytes(223))
+    zeros_behind = "coded", lambda part: part[:16] + codes.parity(part[:16] + bytes(223))
     yield refused(8, frame, sent.taps, damaged(sent, [zeros_behind]))
     yield refused(12, frame, sent.taps, restarted(sent, frame))
     sent = sent._replace(pattern=numbers.bytes(251))
     yield from whole(sent, AREA)
-    blocks = "payload", lambda part: in_blocks(part[: coder.PAYLOAD_DATA])
+    blocks = "payload", lambda part: in_blocks(part[: codes.PAYLOAD_DATA])
     yield refused(12, sent.frame, sent.taps, damaged(sent, [blocks]))
 
 

@@ -10,10 +10,11 @@ three numbers of 2 bytes each, 0 where it has fewer; of a reserved message the o
 wire, so that a field can be given that is too large.
 """
 
-import second_frames as frames
-from records import changed, record, with_bit_changed
-from second_coder import Numbers
-from second_frames import ABSENT, RESERVED, WIDTHS, WITH_LOCK, Header, Message
+from coder import frames
+from records import Numbers, changed, record, with_bit_changed
+
+ABSENT, RESERVED, WIDTHS, WITH_LOCK = frames.ABSENT, frames.RESERVED, frames.WIDTHS, frames.WITH_LOCK
+Header, Message = frames.Header, frames.Message
 
 TYPES = range(4)
 KINDS = range(9)
@@ -63,7 +64,10 @@ def some_header(numbers, frame_type, kind):
 
 NOTHING = Header(0, 0, 0, 0, 0, 0, 0, 0, Message(0, (0,)))
 LARGEST = Header(2**16 - 1, 3, 2**16 - 1, 1, 1, 2**40 - 1, 2**6 - 1, 2**3 - 1, Message(6, (2**16 - 1,)))
-EDGES = [NOTHING, LARGEST, frames.IDLE_1, frames.DATA_1234]
+# 01, Numbers to try.
+IDLE_1 = Header(1, frames.IDLE, 0, 0, 0, 0, 0, 0, Message(ABSENT, ()))
+DATA_1234 = Header(0x1234, frames.DATA, 0xFFFF, 1, 1, 1, 59, 3, Message(5, (2, 1, 2)))
+EDGES = [NOTHING, LARGEST, IDLE_1, DATA_1234]
 
 
 def one_bit_headers():
@@ -162,7 +166,7 @@ def read_records():
         fourteen = frames.header_bytes(header)[:14]
         for place in range(8 * 14):
             yield read(frames.with_check(with_bit_changed(fourteen, place)))
-    sixteen = frames.header_bytes(frames.DATA_1234)
+    sixteen = frames.header_bytes(DATA_1234)
     for place in range(8 * 16):
         yield read(with_bit_changed(sixteen, place), 9)
     for opcode in range(16):

@@ -4,31 +4,32 @@
     python3 tests/write_vectors.py --check    compares it with the one that is there
 
 The file is the number of records in four bytes, and then the records, in the form of records.py. Which kinds there are,
-and what their bodies hold, stands at the head of the files that make them: code_vectors.py, header_vectors.py and
-frame_vectors.py. Each group there has a seed of its own, so that a group can be added and the others stay as they are.
+and what their bodies hold, stands at the head of the files that make them: code_vectors.py, header_vectors.py,
+frame_vectors.py and sender_session.py. Each group has a seed of its own, so that a group can be added and the others
+stay as they are.
 """
 
 import sys
 from pathlib import Path
 
 import code_vectors
+import coder
 import frame_vectors
 import header_vectors
-import second_coder
-import second_frames
+import sender_vectors
 
 VECTORS = Path(__file__).resolve().parent.parent / "crates" / "trials" / "stdin"
 
 
 def vectors():
-    groups = code_vectors.GROUPS + header_vectors.GROUPS + frame_vectors.GROUPS
+    groups = code_vectors.GROUPS + header_vectors.GROUPS + frame_vectors.GROUPS + sender_vectors.GROUPS
     records = [one for group in groups for one in group()]
     return records, len(records).to_bytes(4, "big") + b"".join(records)
 
 
 def main():
-    second_coder.own_trial()
-    second_frames.own_trial()
+    for module in coder.MODULES:
+        module.own_trial()
     records, file = vectors()
     if sys.argv[1:] == ["--check"]:
         if VECTORS.read_bytes() != file:

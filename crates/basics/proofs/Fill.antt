@@ -2,7 +2,6 @@
 use mathlib.Core.Path.{_≡_, sym, _∙_, subst}
 use mathlib.Core.List.{List}
 use Prim.Native.Nat.{ℕ, _+_, _<_}
-use native.Mathlib.Nat.{not-suc-le-zero}
 use native.Mathlib.Omega.{arith}
 use borrow.Author.Count.{below-more}
 use lib.ListN.{length, getD, set}
@@ -11,9 +10,6 @@ use lib.Seq.{getD-set-same, getD-set-other, ext-getD}
 -- the first j elements of l are those of t
 abbrev pub Filled : List ℕ → ℕ → List ℕ → Type 0
 Filled t j l = (k : ℕ) → k < j → getD l k 0 ≡ getD t k 0
-
-pub filled-none : (t l : List ℕ) → Filled t 0 l
-filled-none t l k h = absurd (not-suc-le-zero h)
 
 pub filled-more : (t l : List ℕ) (j v : ℕ) → Filled t j l → j < length l → v ≡ getD t j 0 → Filled t (j + 1) (set l j v)
 filled-more t l j v f h e =

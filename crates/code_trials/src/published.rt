@@ -1,6 +1,7 @@
 // Check values that are published: the numbers to try of the scope paper, the catalogue's check values of the two CRCs,
-// and the generator as CCSDS 131.0-B prints it, which names its coefficients by powers of 2.
+// the generator as CCSDS 131.0-B prints it, which names its coefficients by powers of 2; and those of the digest, which stands for bytes in records.
 use vectors::count::Count;
+use vectors::digest;
 
 // The generator's 17 coefficients, the highest power first.
 const GENERATOR: [u8; 17] = [
@@ -91,6 +92,22 @@ fn generators(count: Count) -> Count {
         .with_bytes(b"generator, by powers of 2:", &found, &powers)
 }
 
+fn digests(count: Count) -> Count {
+    count
+        .with_number(
+            b"FNV-1a of nothing",
+            digest::of(&[]),
+            0xcbf29ce484222325,
+            16,
+        )
+        .with_number(
+            b"FNV-1a of \"foobar\"",
+            digest::of(b"foobar"),
+            0x85944171f73967e8,
+            16,
+        )
+}
+
 pub fn tried() -> Count {
-    generators(powers(check_sums(Count::none())))
+    digests(generators(powers(check_sums(Count::none()))))
 }

@@ -18,7 +18,7 @@ use Rattle.basics.proofs.Lists.{zeros-length, entries-at}
 use Rattle.field.specs.Field.{twice}
 use Rattle.field.proofs.Double.{twice-xor, twice-lt}
 use Rattle.division.proofs.Register.{check-feed}
-use Rattle.crc.specs.Crc.{bits, number, messageBits, crc, crc16Polynomial, crc-16, crc32Polynomial, crc-32}
+use Rattle.crc.specs.Crc.{bits, number, messageBits, crc, crc16Polynomial, crc-16}
 use Rattle.crc.specs.Register.{bitStep, bitSteps, byteStep, doubled, byteTable}
 use Rattle.crc.proofs.Number.{times, Bits, bits-length, bits-are-bits, append-bits, feed-number, bit-step, with-bit-lt, bit-steps-lt}
 
@@ -156,10 +156,6 @@ module _ (k p : ℕ) (degree : p / 2 ^ suc k ≡ 1) where
 pub crc-16-lt : (m : List ℕ) → crc-16 m < 65536
 unfolding crc-16
 crc-16-lt = crc-lt 15 crc16Polynomial refl
-
-pub crc-32-lt : (m : List ℕ) → crc-32 m < 4294967296
-unfolding crc-32
-crc-32-lt = crc-lt 31 crc32Polynomial refl
 
 -- ---- a loop over a message: a turn, from the register r to s, and the end
 

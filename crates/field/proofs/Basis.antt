@@ -7,7 +7,6 @@ use lib.Arith.{lt-one}
 use lib.Pow.{pow-pos, pow-lt, split}
 use lib.Bits.{bitXor, xor-self, xor-shifted}
 use Rattle.basics.proofs.Xor.{bit-cases}
-use Rattle.basics.proofs.Tests.{below}
 
 -- f keeps sums of numbers below 2^m
 abbrev pub Additive : ℕ → (ℕ → ℕ) → Type 0

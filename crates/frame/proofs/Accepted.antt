@@ -2,7 +2,7 @@
 use mathlib.Core.Path.{_≡_, sym, ap, ap₂, _∙_}
 use mathlib.Core.Bool.{true}
 use mathlib.Core.List.{List, _++_}
-use Prim.Native.Nat.{ℕ, _+_, _-_, _≤_}
+use Prim.Native.Nat.{ℕ, _+_}
 use native.Mathlib.Omega.{arith}
 use lib.Dec.{lit<, lit≤}
 use lib.ListN.{length, length-drop, take, drop, take-append-drop}
@@ -10,7 +10,6 @@ use lib.Seq.{length-take-le, take-take, drop-drop, take-add}
 use Rattle.basics.specs.Lists.{Bytes}
 use Rattle.basics.proofs.Tests.{same-true}
 use Rattle.basics.proofs.Lists.{bytes-take, bytes-drop}
-use Rattle.lent.specs.Outcome.{by}
 use Rattle.lent.proofs.Outcome.{gate}
 use Rattle.reed_solomon.specs.Code.{parity, isCodeword, lengthened}
 use Rattle.reed_solomon.specs.Payload.{areCodewords, codedPayload}

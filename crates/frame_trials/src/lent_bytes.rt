@@ -48,25 +48,26 @@ pub fn outcome(found: &Lent, expected: &Lent) -> Outcome {
     outcome::of(found, expected)
 }
 
-fn change_one(change: &[u8], frame: &mut [u8])
+fn change_one(change: &[u8], bytes: &mut [u8])
     requires { ⌜ length (now change) ≡ 3 ⌝ }
 {
     let place = numbers::of_two(change[0], change[1]) as usize;
-    if place < frame.len() {
-        frame[place] = frame[place] ^ change[2];
+    if place < bytes.len() {
+        bytes[place] = bytes[place] ^ change[2];
     }
 }
 
-fn change(changes: &[u8], frame: &mut [u8]) {
+// Changes some bytes: each three bytes are a place, in two bytes, and what is added modulo 2 to the byte there.
+pub fn change(changes: &[u8], bytes: &mut [u8]) {
     let count = changes.len() / 3;
     let mut i: usize = 0;
     while i < count {
-        change_one(&changes[3 * i..3 * i + 3], frame);
+        change_one(&changes[3 * i..3 * i + 3], bytes);
         i += 1;
     }
 }
 
-// A frame with some bytes changed: each three bytes are a place, in two bytes, and what is added modulo 2 to the byte there.
+// A frame with some bytes changed.
 pub fn changed(frame: &Lent, changes: &[u8]) -> Lent {
     let mut next = kept_behind(frame);
     change(changes, &mut next);

@@ -43,9 +43,6 @@ module _ (ack valid : Bool) (kind : FrameKind) where
   pub d4-kind : kindOf (flagsByte ack valid kind % 4) ≡ kind
   d4-kind = let e : flagsByte ack valid kind % 4 ≡ kindNumber kind = omega (arith, bit-le ack, bit-le valid, kind-le kind) in rw e (kind-back kind)
 
-  pub d4-lt : flagsByte ack valid kind < 256
-  d4-lt = omega (arith, bit-le ack, bit-le valid, kind-le kind)
-
 -- ---- from the byte
 
 bit-number : (n : ℕ) → n < 2 → bit (eqb n 1) ≡ n

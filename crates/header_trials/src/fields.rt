@@ -1,7 +1,7 @@
 // A header as the vectors hold it, field by field in 24 bytes, a number's high byte first: TXFN 2, type, RXFN 2, ACK,
 // ACK-valid, TX_TS 8, seconds, TS-applies, the message's kind, its numbers 2 each. Each field has more room than on the
 // wire, so that one that is too large can be given.
-ghost use Prim.Native.Nat.{_≤_, _<_};
+ghost use Prim.Native.Nat.{_≤_};
 ghost use lib.ListN.{length};
 use crate::messages;
 use crate::messages::Message;
@@ -12,7 +12,7 @@ use header::Rxfn;
 use header::Txfn;
 use vectors::numbers;
 
-fn kind_number(kind: FrameKind) -> u8 {
+pub fn kind_number(kind: FrameKind) -> u8 {
     match kind {
         FrameKind::Idle => 0,
         FrameKind::Data => 1,
@@ -34,31 +34,10 @@ fn number_of(high: u8, low: u8) -> u16 {
     numbers::of_two(high, low) as u16
 }
 
-fn wide(number: u32) -> u64
-    ensures { λ r. ⌜ r < 4294967296 ⌝ }
-{
-    number as u64
-}
-
-fn stamp_bytes(stamp: u64) -> [u8; 8] {
-    let high = numbers::four_bytes((stamp / 4294967296) as u32);
-    let low = numbers::four_bytes((stamp % 4294967296) as u32);
-    [
-        high[0],
-        high[1],
-        high[2],
-        high[3],
-        low[0],
-        low[1],
-        low[2],
-        low[3],
-    ]
-}
-
 fn stamp_of(bytes: &[u8; 24]) -> u64 {
     let high = numbers::of_four(bytes[7], bytes[8], bytes[9], bytes[10]);
     let low = numbers::of_four(bytes[11], bytes[12], bytes[13], bytes[14]);
-    wide(high) * 4294967296 + wide(low)
+    numbers::of_eight(high, low)
 }
 
 // Every field of a header.
@@ -69,7 +48,7 @@ pub fn bytes(header: Header) -> [u8; 24] {
     let message = messages::numbers(channel);
     let txfn = numbers::two_bytes(header.txfn.0);
     let rxfn = numbers::two_bytes(fields.rxfn.0);
-    let stamp = stamp_bytes(fields.stamp);
+    let stamp = numbers::eight_bytes(fields.stamp);
     let first = numbers::two_bytes(message.first);
     let second = numbers::two_bytes(message.second);
     let third = numbers::two_bytes(message.third);

@@ -1,7 +1,7 @@
 // The bench's own packing: reading the records of a DATA area and writing one. What an area may hold is `Allowed` in specs/Rules.antt, what a frame takes from the queue `fill`.
 ghost use mathlib.Core.Path.{_≡_};
 ghost use mathlib.Core.Bool.{cond};
-ghost use Prim.Native.Nat.{_+_, _*_, _≤_, _<_};
+ghost use Prim.Native.Nat.{_+_, _≤_, _<_};
 ghost use lib.ListN.{length, drop};
 ghost use Rattle.lent.specs.Written.{written};
 ghost use Rattle.link.specs.Store.{isSome};

@@ -1,14 +1,13 @@
 -- Two codewords that differ in at most 16 places are equal, and so at most one codeword is within 8 places of a word.
 use mathlib.Core.Path.{_≡_, refl, sym, ap, ap₂, _∙_, subst}
 use mathlib.Core.Logic.{_⊎_, inl, inr}
-use mathlib.Core.Bool.{not}
 use mathlib.Core.List.{List, [], _∷_, _++_}
 use Prim.Native.Nat.{ℕ, zero, suc, _+_, _*_, _≤_, _<_}
 use native.Mathlib.Nat.{suc-inj, suc-ne-zero, zero-lt-suc, lt-irrefl, le-of-suc-le-suc, suc-add, add-suc, add-zero, add-comm}
 use native.Mathlib.Omega.{arith}
 use lib.Bits.{bitXor, xor-self, xor-zero-r}
 use lib.ListN.{length, length-append}
-use Rattle.field.specs.Field.{power, times, twice}
+use Rattle.field.specs.Field.{power, times}
 use Rattle.basics.proofs.Xor.{xor-cross, xor-zero-eq}
 use Rattle.field.proofs.Laws.{times-xor-left, zero-times, times-zero, power-lt}
 use Rattle.field.proofs.Tables.{no-zero-divisors}

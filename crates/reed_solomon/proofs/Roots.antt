@@ -17,7 +17,6 @@ use Rattle.basics.specs.Lists.{zeros, Bytes}
 use Rattle.division.specs.Division.{plus, scale, remainder}
 use Rattle.division.proofs.Register.{scale-length}
 use Rattle.division.proofs.Identity.{plus-length-le}
-use Rattle.reed_solomon.specs.Code.{generator}
 use Rattle.reed_solomon.proofs.Factors.{coefficients, generator-is}
 use Rattle.reed_solomon.proofs.Laws.{Codeword}
 

@@ -1,14 +1,12 @@
--- Scrambling as frames use it: it is its own inverse, keeps the length, and goes on from part to part.
-use mathlib.Core.Path.{_≡_, refl, sym, ap, ap₂, _∙_}
-use mathlib.Core.List.{List, [], _∷_, _++_}
-use Prim.Native.Nat.{ℕ, suc, _+_, _*_}
-use native.Mathlib.Omega.{arith}
+-- Scrambling as frames use it: it is its own inverse, keeps the length, and makes bytes of bytes.
+use mathlib.Core.Path.{_≡_, refl, ap, ap₂, _∙_}
+use mathlib.Core.List.{List, [], _∷_}
+use Prim.Native.Nat.{ℕ, suc}
 use lib.Bits.{bitXor, xor-comm, xor-lt}
 use lib.ListN.{length}
 use Rattle.basics.specs.Lists.{Bytes}
 use Rattle.basics.proofs.Xor.{xor-cancel}
 use Rattle.scrambler.specs.Scrambler.{after, firstStages, key, scrambledFrom, scrambled}
-use Rattle.scrambler.proofs.Stages.{after-add}
 use Rattle.scrambler.proofs.Steps.{key-lt}
 
 pub scrambled-from-twice : (taps stages : ℕ) (bytes : List ℕ) → scrambledFrom taps stages (scrambledFrom taps stages bytes) ≡ bytes
@@ -22,9 +20,6 @@ scrambled-from-twice taps stages (b ∷ bytes) =
 pub scrambled-twice : (taps : ℕ) (bytes : List ℕ) → scrambled taps (scrambled taps bytes) ≡ bytes
 unfolding scrambled
 scrambled-twice taps bytes = scrambled-from-twice taps firstStages bytes
-
-pub scrambled-injective : (taps : ℕ) (a b : List ℕ) → scrambled taps a ≡ scrambled taps b → a ≡ b
-scrambled-injective taps a b e = sym (scrambled-twice taps a) ∙ ap (scrambled taps) e ∙ scrambled-twice taps b
 
 pub scrambled-from-length : (taps stages : ℕ) (bytes : List ℕ) → length (scrambledFrom taps stages bytes) ≡ length bytes
 unfolding scrambledFrom
@@ -45,15 +40,3 @@ scrambled-from-bytes taps stages (b ∷ bytes) h =
 pub scrambled-bytes : (taps : ℕ) (bytes : List ℕ) → Bytes bytes → Bytes (scrambled taps bytes)
 unfolding scrambled
 scrambled-bytes taps bytes h = scrambled-from-bytes taps firstStages bytes h
-
--- a second part goes on from the stages that the first part left
-pub scrambled-from-append : (taps stages : ℕ) (a b : List ℕ)
-    → scrambledFrom taps stages (a ++ b) ≡ scrambledFrom taps stages a ++ scrambledFrom taps (after taps (8 * length a) stages) b
-unfolding scrambledFrom after
-scrambled-from-append taps stages [] b = refl
-scrambled-from-append taps stages (x ∷ a) b =
-    let further : 8 + 8 * length a ≡ 8 * suc (length a) = omega arith in
-    ap (λ (l : List ℕ). bitXor x (key taps 8 stages) ∷ l)
-    (scrambled-from-append taps (after taps 8 stages) a b
-    ∙ ap (λ (s : ℕ). scrambledFrom taps (after taps 8 stages) a ++ scrambledFrom taps s b)
-    (sym (after-add taps 8 (8 * length a) stages) ∙ ap (λ (n : ℕ). after taps n stages) further))

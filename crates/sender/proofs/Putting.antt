@@ -11,7 +11,7 @@ use Rattle.basics.specs.Lists.{Bytes}
 use Rattle.basics.proofs.Tests.{left-true, right-true}
 use Rattle.lent.specs.Outcome.{by}
 use Rattle.lent.specs.Written.{written}
-use Rattle.lent.proofs.Outcome.{gate, accepted}
+use Rattle.lent.proofs.Outcome.{gate, accepted, numbered}
 use Rattle.lent.proofs.Written.{written-append, take-written, bytes-written}
 use Rattle.link.specs.Link.{IsPacket, Queue, withPacket}
 use Rattle.link.specs.Store.{marked, parse}
@@ -20,7 +20,7 @@ use Rattle.sender.specs.declared.Sender.{Sender}
 use Rattle.sender.specs.declared.PutAnswer.{PutAnswer}
 use Rattle.sender.specs.declared.PutAnswer.the-variants.{Taken, Refused}
 use Rattle.marks.specs.Queue.{isUsedWhole}
-use Rattle.sender.specs.Put.{putRefusal, putSender, putBytes, PutOutcome}
+use Rattle.sender.specs.Put.{putRefusal, putSender, putBytes, putNumber, putAnswer, PutOutcome}
 use Rattle.basics.proofs.Lists.{bytes-take}
 use Rattle.sender.proofs.Stands.{Stands}
 
@@ -51,6 +51,10 @@ pub put-written : {queue : List ℕ} {used : ℕ} {packet : List ℕ} → PutPas
     → written (written queue used (length packet / 256 ∷ length packet % 256 ∷ [])) (used + 2) packet ≡ putBytes queue used packet
 put-written {queue} {used} {packet} p =
     written-append queue used (length packet / 256 ∷ length packet % 256 ∷ []) packet (omega (arith, p .long, p .room))
+
+-- the answer's number is the one that it was made for
+pub put-numbers : (number : ℕ) (sender : Sender) → putNumber (putAnswer number sender) ≡ number
+put-numbers number sender = numbered putNumber (Taken sender) (λ n. Refused n) refl (λ n. refl) number
 
 -- Any two outcomes that the contract of `put` admits are equal.
 pub put-one : (queue : List ℕ) (sender : Sender) (packet : List ℕ) (r₁ r₂ : PutAnswer) (after₁ after₂ : List ℕ)

@@ -11,7 +11,7 @@ use lib.Seq.{length-take-le}
 use borrow.Author.Tests.{eqb-true, leb-true, eq-eqb, ne-eqb}
 use Rattle.basics.specs.Lists.{Bytes}
 use Rattle.basics.proofs.Tests.{left-true, right-true}
-use Rattle.lent.proofs.Outcome.{gate}
+use Rattle.lent.proofs.Outcome.{gate, numbered}
 use Rattle.link.specs.Link.{Packet, Queue, Cut}
 use Rattle.link.specs.Store.{layoutRest, layoutWaiting, layout, isWhole}
 use Rattle.link.proofs.RoundTrip.{parse-queue, layout-back}
@@ -25,11 +25,11 @@ use Rattle.header.specs.declared.FrameKind.{FrameKind}
 use Rattle.header.specs.declared.FrameKind.the-variants.{Idle, Data}
 use Rattle.marks.specs.Queue.{isUsedWhole, queueIn}
 use Rattle.marks.proofs.Parsed.{whole-parsed}
-use Rattle.sender.specs.Next.{kindFor, areaFor, leftIn, nextRefusal, NextOutcome}
+use Rattle.sender.specs.Next.{kindFor, areaFor, leftIn, nextRefusal, nextNumber, nextAnswer, NextOutcome}
 use Rattle.filling.specs.Filling.{remaining, FillOutcome}
 use Rattle.sender.specs.declared.Sender.{Sender}
 use Rattle.sender.specs.declared.NextAnswer.{NextAnswer}
-use Rattle.sender.specs.declared.NextAnswer.the-variants.{Sent}
+use Rattle.sender.specs.declared.NextAnswer.the-variants.{Sent, Refused}
 use Rattle.filling.specs.declared.Filled.{Filled}
 use Rattle.basics.proofs.Lists.{bytes-take}
 
@@ -102,6 +102,10 @@ module _ {taps : ℕ} {fields : Fields} {used : ℕ} {queue out : List ℕ} (p :
 
     pub start-within : filled .start ≤ used
     start-within = omega (arith, o .inside, used-length)
+
+-- the answer's number is the one that it was made for
+pub next-numbers : (number : ℕ) (sender : Sender) (kind : FrameKind) → nextNumber (nextAnswer number sender kind) ≡ number
+next-numbers number sender kind = numbered nextNumber (Sent sender kind) (λ n. Refused n) refl (λ n. refl) number
 
 -- Any two outcomes that the contract of `next_frame` admits are equal.
 pub next-frame-one : (taps : ℕ) (fields : Fields) (sender : Sender) (queue out : List ℕ) (r₁ r₂ : NextAnswer) (queue₁ queue₂ out₁ out₂ : List ℕ)

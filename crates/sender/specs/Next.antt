@@ -56,6 +56,14 @@ nextRefusal taps fields used queue out =
     (cond (isUsedWhole queue used)
     (cond (fieldsFit fields) 0 6) 3) 2) 1
 
+-- The paper's number for each case of the answer, and the case for a number: `next-numbers` in proofs/Sending.antt ties the two.
+abbrev pub nextNumber : NextAnswer → ℕ
+nextNumber (Sent sender kind) = 0
+nextNumber (Refused number) = number
+
+abbrev pub nextAnswer : ℕ → Sender → FrameKind → NextAnswer
+nextAnswer number sender kind = by number (Sent sender kind) (Refused number)
+
 module _ (taps : ℕ) (fields : Fields) (sender : Sender) (queue out : List ℕ) where
   abbrev number : ℕ
   number = nextRefusal taps fields (sender .used) queue out
@@ -66,6 +74,6 @@ module _ (taps : ℕ) (fields : Fields) (sender : Sender) (queue out : List ℕ)
   -- The whole outcome of `next_frame`: the answer, and the bytes of the queue and of out. What remains moves to the front of the queue, and the frame is written to
   -- the front of out; all other bytes keep their values.
   pub record NextOutcome (r : NextAnswer) (queue′ out′ : List ℕ) : Type 0 where
-    pub answer : r ≡ by number (Sent (senderAfter sender waiting) (kindFor waiting)) (Refused number)
+    pub answer : r ≡ nextAnswer number (senderAfter sender waiting) (kindFor waiting)
     pub bytes : queue′ ≡ by number (written queue 0 (layout (leftIn waiting))) queue
     pub frame : out′ ≡ by number (written out 0 (frameBytes taps (headerFor sender fields waiting) (areaFor waiting))) out

@@ -33,7 +33,15 @@ putSender sender packet = record { used = sender .used + 2 + length packet; next
 abbrev pub putBytes : List ℕ → ℕ → List ℕ → List ℕ
 putBytes queue used packet = written queue used (marked (length packet) packet)
 
+-- The paper's number for each case of the answer, and the case for a number: `put-numbers` in proofs/Putting.antt ties the two.
+abbrev pub putNumber : PutAnswer → ℕ
+putNumber (Taken sender) = 0
+putNumber (Refused number) = number
+
+abbrev pub putAnswer : ℕ → Sender → PutAnswer
+putAnswer number sender = by number (Taken sender) (Refused number)
+
 -- the whole outcome of `put`: the answer, and the queue's bytes
 pub record PutOutcome (queue : List ℕ) (sender : Sender) (packet : List ℕ) (r : PutAnswer) (after : List ℕ) : Type 0 where
-  pub answer : r ≡ by (putRefusal queue (sender .used) packet) (Taken (putSender sender packet)) (Refused (putRefusal queue (sender .used) packet))
+  pub answer : r ≡ putAnswer (putRefusal queue (sender .used) packet) (putSender sender packet)
   pub bytes : after ≡ by (putRefusal queue (sender .used) packet) (putBytes queue (sender .used) packet) queue

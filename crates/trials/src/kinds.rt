@@ -3,12 +3,14 @@ use code_trials::codes;
 use frame_trials::Lent;
 use frame_trials::frames;
 use header_trials::headers;
+use sender_trials::calls;
+use sender_trials::queues;
 use vectors::outcome::Outcome;
 use vectors::tally::Tally;
 use vectors::text;
 
-// The frame at hand is the last that a record brought.
-pub fn outcome(kind: u8, body: &mut [u8], at_hand: &mut Lent) -> Outcome {
+// The frame at hand is the last that a record brought. It and the sender's queue stay from record to record.
+pub fn outcome(kind: u8, body: &mut [u8], at_hand: &mut Lent, queue: &mut [u8]) -> Outcome {
     match kind {
         1 => codes::crc_16(body),
         2 => codes::crc_32(body),
@@ -25,6 +27,11 @@ pub fn outcome(kind: u8, body: &mut [u8], at_hand: &mut Lent) -> Outcome {
         13 => frames::built(body, at_hand),
         14 => frames::opened(body, at_hand),
         15 => frames::refused(body, at_hand),
+        16 => queues::begun(body, queue),
+        17 => queues::changed(body, queue),
+        18 => calls::put(body, queue),
+        19 => calls::next_frame(body, queue, at_hand),
+        20 => queues::in_full(body, queue),
         _ => Outcome::Malformed,
     }
 }
@@ -46,4 +53,9 @@ pub fn print(tally: Tally) {
     tally.print_kind(13, b"frame built");
     tally.print_kind(14, b"frame opened");
     tally.print_kind(15, b"frame refused");
+    tally.print_kind(16, b"queue begun");
+    tally.print_kind(17, b"queue changed");
+    tally.print_kind(18, b"packet put");
+    tally.print_kind(19, b"next frame");
+    tally.print_kind(20, b"queue in full");
 }

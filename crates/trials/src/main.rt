@@ -5,37 +5,45 @@ mod kinds;
 use code_trials::published;
 use frame_trials::Lent;
 use frame_trials::frames;
+use sender_trials::queues;
 use vectors::record;
 use vectors::record::Head;
 use vectors::tally::Tally;
 use vectors::text;
 
 // Reads the body of a record, and tries it. The 65,536 bytes that are lent have room for every body.
-fn tried(tally: Tally, kind: u8, length: usize, lent: &mut [u8], at_hand: &mut Lent) -> Tally {
+fn tried(
+    tally: Tally,
+    kind: u8,
+    length: usize,
+    lent: &mut [u8],
+    at_hand: &mut Lent,
+    queue: &mut [u8],
+) -> Tally {
     if lent.len() < length {
         return tally.cut_short();
     }
     let body = &mut lent[0..length];
     if record::is_read(body) {
-        return tally.with(kind, kinds::outcome(kind, body, at_hand));
+        return tally.with(kind, kinds::outcome(kind, body, at_hand, queue));
     }
     tally.cut_short()
 }
 
-fn next_tried(tally: Tally, lent: &mut [u8], at_hand: &mut Lent) -> Tally {
+fn next_tried(tally: Tally, lent: &mut [u8], at_hand: &mut Lent, queue: &mut [u8]) -> Tally {
     match record::read_head() {
-        Head::Record { kind, length } => tried(tally, kind, length, lent, at_hand),
+        Head::Record { kind, length } => tried(tally, kind, length, lent, at_hand, queue),
         Head::Short => tally.cut_short(),
     }
 }
 
 // Tries as many records as the input announces, or as it holds.
-fn all_tried(announced: u64, lent: &mut [u8]) -> Tally {
+fn all_tried(announced: u64, lent: &mut [u8], queue: &mut [u8]) -> Tally {
     let mut tally = Tally::new();
     let mut left = announced;
     let mut at_hand = frames::none_at_hand();
     while 0 < left && tally.goes_on {
-        let next = next_tried(tally, lent, &mut at_hand);
+        let next = next_tried(tally, lent, &mut at_hand, queue);
         tally = next;
         left -= 1;
     }
@@ -46,7 +54,8 @@ fn main() {
     let checks = published::tried();
     let announced = record::read_count();
     let mut lent = io::large_buffer();
-    let tally = all_tried(announced, &mut lent).ended(record::is_at_end());
+    let mut queue = queues::none();
+    let tally = all_tried(announced, &mut lent, &mut queue).ended(record::is_at_end());
     kinds::print(tally);
     text::say(b"check values ");
     checks.print();

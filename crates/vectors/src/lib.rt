@@ -2,8 +2,10 @@
 // expected, counts, and prints. No contract can say what is read or written. Two that matter say that bytes that differ
 // are never called the same (`outcome::of`), and that a count of differences never falls (`Count::with`).
 pub mod count;
+pub mod digest;
 pub mod numbers;
 pub mod outcome;
 pub mod record;
+pub mod seeded;
 pub mod tally;
 pub mod text;

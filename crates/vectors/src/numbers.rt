@@ -34,3 +34,29 @@ pub fn of_four(first: u8, second: u8, third: u8, fourth: u8) -> u32
 {
     of_two(first, second) * 65536 + of_two(third, fourth)
 }
+
+fn wider(number: u32) -> u64
+    ensures { λ r. ⌜ r < 4294967296 ⌝ }
+{
+    number as u64
+}
+
+pub fn eight_bytes(number: u64) -> [u8; 8] {
+    let high = four_bytes((number / 4294967296) as u32);
+    let low = four_bytes((number % 4294967296) as u32);
+    [
+        high[0],
+        high[1],
+        high[2],
+        high[3],
+        low[0],
+        low[1],
+        low[2],
+        low[3],
+    ]
+}
+
+// The number of two that have four bytes each.
+pub fn of_eight(high: u32, low: u32) -> u64 {
+    wider(high) * 4294967296 + wider(low)
+}

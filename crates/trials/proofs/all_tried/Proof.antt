@@ -7,10 +7,11 @@ use Rattle.trials.proofs.all_tried.Statement.{statement}
 use Rattle.trials.proofs.all_tried.Tie as tie
 
 abbrev Inv-loop : tie.InvT-loop
-Inv-loop announced lent₀ tally₀ left₀ at-hand₀ lent tally left at-hand = length lent ≡ length lent₀
+Inv-loop announced lent₀ queue₀ tally₀ left₀ at-hand₀ lent queue tally left at-hand =
+    (length lent ≡ length lent₀) × (length queue ≡ length queue₀)
 
 abbrev μ-loop : tie.MeasureT-loop
-μ-loop announced lent₀ tally₀ left₀ at-hand₀ lent tally left at-hand = left
+μ-loop announced lent₀ queue₀ tally₀ left₀ at-hand₀ lent queue tally left at-hand = left
 
 new-requires : tie.Need-new-requires Inv-loop μ-loop
 new-requires c κs = search needs
@@ -36,11 +37,17 @@ loop-again c = search needs
 same-length : tie.Need-same-length Inv-loop μ-loop
 same-length c = search needs
 
+same-length-2 : tie.Need-same-length-2 Inv-loop μ-loop
+same-length-2 c = search needs
+
 returns : tie.Need-returns Inv-loop μ-loop
 returns c = search needs
 
-same-length-2 : tie.Need-same-length-2 Inv-loop μ-loop
-same-length-2 c = search needs
+same-length-3 : tie.Need-same-length-3 Inv-loop μ-loop
+same-length-3 c = search needs
+
+same-length-4 : tie.Need-same-length-4 Inv-loop μ-loop
+same-length-4 c = search needs
 
 returns-2 : tie.Need-returns-2 Inv-loop μ-loop
 returns-2 c = search needs
@@ -59,6 +66,8 @@ all-tried-spec =
     loop-less
     loop-again
     same-length
-    returns
     same-length-2
+    returns
+    same-length-3
+    same-length-4
     returns-2)

@@ -7,10 +7,10 @@ use Rattle.frame_trials.proofs.lent_bytes.change.Statement.{statement}
 use Rattle.frame_trials.proofs.lent_bytes.change.Tie as tie
 
 abbrev Inv-loop : tie.InvT-loop
-Inv-loop changes frame₀ count i₀ frame i = (length frame ≡ length frame₀) × (3 * count ≤ length changes)
+Inv-loop changes bytes₀ count i₀ bytes i = (length bytes ≡ length bytes₀) × (3 * count ≤ length changes)
 
 abbrev μ-loop : tie.MeasureT-loop
-μ-loop changes frame₀ count i₀ frame i = count - i
+μ-loop changes bytes₀ count i₀ bytes i = count - i
 
 loop-holds : tie.Need-loop-holds Inv-loop μ-loop
 loop-holds c = search needs

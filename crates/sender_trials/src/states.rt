@@ -1,0 +1,62 @@
+// States and answers of the sender as the vectors hold them. A state is 10 bytes: the used bytes of the queue 8, the number of the next frame 2.
+ghost use Prim.Native.Nat.{_≤_};
+ghost use lib.ListN.{length};
+use header::Txfn;
+use header_trials::fields;
+use sender::NextAnswer;
+use sender::PutAnswer;
+use sender::Sender;
+use vectors::numbers;
+
+fn number_of(high: u8, low: u8) -> u16 {
+    numbers::of_two(high, low) as u16
+}
+
+// The state in the first 10 bytes.
+pub fn sender(bytes: &[u8]) -> Sender
+    requires { ⌜ 10 ≤ length (now bytes) ⌝ }
+{
+    let high = numbers::of_four(bytes[0], bytes[1], bytes[2], bytes[3]);
+    let low = numbers::of_four(bytes[4], bytes[5], bytes[6], bytes[7]);
+    let next = number_of(bytes[8], bytes[9]);
+    Sender {
+        used: numbers::of_eight(high, low) as usize,
+        next: Txfn(next),
+    }
+}
+
+// The refusal's number, 0 for none; the type of the frame that was sent, 0 where none was; the state after the call.
+fn answer(number: u8, kind: u8, sender: Sender) -> [u8; 12] {
+    let used = numbers::eight_bytes(sender.used as u64);
+    let next = numbers::two_bytes(sender.next.0);
+    [
+        number,
+        kind,
+        used[0],
+        used[1],
+        used[2],
+        used[3],
+        used[4],
+        used[5],
+        used[6],
+        used[7],
+        next[0],
+        next[1],
+    ]
+}
+
+// What put answers. A refusal leaves the state that was given.
+pub fn put_answer(found: PutAnswer, given: Sender) -> [u8; 12] {
+    match found {
+        PutAnswer::Taken(sender) => answer(0, 0, sender),
+        PutAnswer::Refused(number) => answer(number, 0, given),
+    }
+}
+
+// What next_frame answers.
+pub fn next_answer(found: NextAnswer, given: Sender) -> [u8; 12] {
+    match found {
+        NextAnswer::Sent { sender, kind } => answer(0, fields::kind_number(kind), sender),
+        NextAnswer::Refused(number) => answer(number, 0, given),
+    }
+}
