@@ -98,6 +98,8 @@ static void some_put(void)
     size_t length = below(10) ? 1 + below(9000) : below(9300);
     if (below(3))
         length = 1 + below(60);
+    if (below(20) == 0)
+        length = below(2) ? 0 : 9001 + below(50);
     both_put(some_size(TAQWELIM_QUEUE_SIZE), &sender, length);
 }
 

@@ -2,15 +2,17 @@
 use crate::headers;
 use crate::headers::FlatHeader;
 use crate::states;
+use crate::states::FlatReceiver;
 use crate::states::FlatSender;
 use header::CodeAnswer;
 use header::ReadAnswer;
 use list::EntryAnswer;
+use receiver::ReceiveAnswer;
 use sender::NextAnswer;
 use sender::PutAnswer;
 ghost use mathlib.Core.Path.{_≡_};
 ghost use Rattle.header.specs.Calls.{codeNumber};
-ghost use Rattle.flat.specs.Answers.{flatPut, flatNext, flatRead, flatEntry, flatPacket};
+ghost use Rattle.flat.specs.Answers.{flatPut, flatNext, flatReceive, flatRead, flatEntry, flatPacket};
 
 #[repr(C)]
 pub struct FlatPut {
@@ -22,6 +24,16 @@ pub struct FlatPut {
 pub struct FlatNext {
     pub sender: FlatSender,
     pub kind: u8,
+    pub refusal: u8,
+}
+
+#[repr(C)]
+pub struct FlatReceive {
+    pub header: FlatHeader,
+    pub receiver: FlatReceiver,
+    pub packets: usize,
+    pub listed: usize,
+    pub missed: u16,
     pub refusal: u8,
 }
 
@@ -74,6 +86,35 @@ pub fn flat_next(given: FlatSender, answer: NextAnswer) -> FlatNext
         NextAnswer::Refused(number) => FlatNext {
             sender: given,
             kind: 0,
+            refusal: number,
+        },
+    }
+}
+
+pub fn flat_receive(given: FlatReceiver, answer: ReceiveAnswer) -> FlatReceive
+    ensures { λ r. ⌜ r ≡ flatReceive given answer ⌝ }
+{
+    match answer {
+        ReceiveAnswer::Received {
+            header,
+            missed,
+            packets,
+            listed,
+            receiver,
+        } => FlatReceive {
+            header: headers::flat_header(header),
+            receiver: states::flat_receiver(receiver),
+            packets,
+            listed,
+            missed,
+            refusal: 0,
+        },
+        ReceiveAnswer::Refused(number) => FlatReceive {
+            header: headers::no_header(),
+            receiver: given,
+            packets: 0,
+            listed: 0,
+            missed: 0,
             refusal: number,
         },
     }

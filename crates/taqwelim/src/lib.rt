@@ -5,19 +5,23 @@ use flat::answers::FlatNext;
 use flat::answers::FlatPacket;
 use flat::answers::FlatPut;
 use flat::answers::FlatRead;
+use flat::answers::FlatReceive;
 use flat::headers;
 use flat::headers::FlatFields;
 use flat::headers::FlatHeader;
 use flat::states;
+use flat::states::FlatReceiver;
 use flat::states::FlatSender;
+use receiver::Receiver;
 use sender::Sender;
 ghost use mathlib.Core.Path.{_≡_};
 ghost use Rattle.header.specs.Calls.{readHeader, levelOf};
 ghost use Rattle.list.specs.Reading.{entryAnswer};
+ghost use Rattle.receiver.specs.Applying.{freshReceiver};
 ghost use Rattle.sender.specs.Put.{freshSender};
-ghost use Rattle.flat.specs.States.{flatSender};
+ghost use Rattle.flat.specs.States.{flatSender, flatReceiver};
 ghost use Rattle.flat.specs.Answers.{flatRead, flatEntry, flatPacket};
-ghost use Rattle.taqwelim.specs.Calls.{PutCall, NextCall, CodeCall};
+ghost use Rattle.taqwelim.specs.Calls.{PutCall, NextCall, ReceiveCall, CodeCall};
 
 #[no_mangle]
 pub extern "C" fn taqwelim_fresh_sender() -> FlatSender
@@ -54,6 +58,28 @@ pub extern "C" fn taqwelim_next_frame(
         out,
     );
     answers::flat_next(sender, answer)
+}
+
+#[no_mangle]
+pub extern "C" fn taqwelim_fresh_receiver() -> FlatReceiver
+    ensures { λ r. ⌜ r ≡ flatReceiver freshReceiver ⌝ }
+{
+    states::flat_receiver(Receiver::fresh())
+}
+
+// Refusals: 1, 2, 3, 7 to 15.
+#[no_mangle]
+pub extern "C" fn taqwelim_receive(
+    taps: u32,
+    frame: &[u8],
+    receiver: FlatReceiver,
+    hold: &mut [u8],
+    list: &mut [u8],
+) -> FlatReceive
+    ensures { λ r. ⌜ ReceiveCall taps (now (frame .entry)) receiver (now (hold .entry)) (now (list .entry)) r (now (hold .exit)) (now (list .exit)) ⌝ }
+{
+    let answer = receiver::receive(taps, frame, states::receiver_of(receiver), hold, list);
+    answers::flat_receive(receiver, answer)
 }
 
 // Refusal: 16.

@@ -18,19 +18,19 @@ enum-known-answer-2 c = search needs
 
 -- src/answers.rt:106:1
 returns : tie.Need-returns
-returns c = 
+returns c =
     let at-answer = c .before .answer in
     simp ((at-answer .given .1))
 
 -- src/answers.rt:106:1
 returns-2 : tie.Need-returns-2
-returns-2 c = 
+returns-2 c =
     let at-enum-told = c .enum-told in
     simp ((at-enum-told .given .1))
 
 -- src/answers.rt:106:1
 returns-3 : tie.Need-returns-3
-returns-3 c = 
+returns-3 c =
     let at-answer2 = c .before .answer2 in
     simp ((at-answer2 .given .1))
 
