@@ -1,1 +1,9 @@
 pub mod Cases
+pub mod Outcomes
+pub mod Demand1
+pub mod Demand2
+pub mod Sender
+pub mod Receiver
+pub mod Demand3
+pub mod Runs
+pub mod Example

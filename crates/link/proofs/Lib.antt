@@ -3,7 +3,7 @@ pub mod Reassembly
 pub mod Numbers
 pub mod Sender
 pub mod Demand3
-pub mod Machine
+pub mod Packing
 pub mod Store
 pub mod RoundTrip
 pub mod Hold

@@ -2,5 +2,4 @@ pub mod Link
 pub mod Ledger
 pub mod Demand3
 pub mod Packing
-pub mod Machine
 pub mod Store

@@ -1,0 +1,79 @@
+-- DEMAND 1: every call takes all inputs, ends, and answers or refuses by a number from the table; a refusal returns that number only, and changes no state and no byte of a lent buffer.
+-- That a call takes all inputs and ends is shown by its having no `requires` and being proved. Here: what its contract says. A state is given and returned by value, and a refusal's answer
+-- holds its number alone. `every-call-holds` in proofs/Demand1.antt is the proof.
+use mathlib.Core.Path.{_≡_}
+use mathlib.Core.Bool.{Bool, true, false, _||_}
+use mathlib.Core.List.{List, [], _∷_}
+use Prim.Native.Nat.{ℕ}
+use lib.Dec.{eqb}
+use lib.IntN.{ℤ}
+use Rattle.header.specs.Calls.{CodeHeaderOutcome, readHeader, levelOf}
+use Rattle.header.specs.declared.Fields.{Fields}
+use Rattle.header.specs.declared.Header.{Header}
+use Rattle.header.specs.declared.CodeAnswer.{CodeAnswer}
+use Rattle.header.specs.declared.CodeAnswer.the-variants as coding
+use Rattle.header.specs.declared.ReadAnswer.{ReadAnswer}
+use Rattle.header.specs.declared.ReadAnswer.the-variants as reading
+use Rattle.frame.specs.Opening.{OpenOutcome}
+use Rattle.frame.specs.declared.OpenAnswer.{OpenAnswer}
+use Rattle.frame.specs.declared.OpenAnswer.the-variants as opening
+use Rattle.sender.specs.Put.{PutOutcome}
+use Rattle.sender.specs.Next.{NextOutcome}
+use Rattle.sender.specs.declared.Sender.{Sender}
+use Rattle.sender.specs.declared.PutAnswer.{PutAnswer}
+use Rattle.sender.specs.declared.PutAnswer.the-variants as putting
+use Rattle.sender.specs.declared.NextAnswer.{NextAnswer}
+use Rattle.sender.specs.declared.NextAnswer.the-variants as sending
+use Rattle.receiver.specs.Applying.{ApplyOutcome}
+use Rattle.receiver.specs.Receiving.{ReceiveOutcome}
+use Rattle.receiver.specs.declared.Receiver.{Receiver}
+use Rattle.receiver.specs.declared.ApplyAnswer.{ApplyAnswer}
+use Rattle.receiver.specs.declared.ApplyAnswer.the-variants as applying
+use Rattle.receiver.specs.declared.ReceiveAnswer.{ReceiveAnswer}
+use Rattle.receiver.specs.declared.ReceiveAnswer.the-variants as receiving
+use Rattle.list.specs.Reading.{entryAnswer, PacketOutcome}
+use Rattle.list.specs.declared.EntryAnswer.{EntryAnswer}
+use Rattle.list.specs.declared.EntryAnswer.the-variants as listing
+
+-- whether a number is one of some
+abbrev pub among : ℕ → List ℕ → Bool
+among number [] = false
+among number (n ∷ numbers) = eqb number n || among number numbers
+
+-- A call with its inputs: the outcomes (an answer, and what the lent buffers hold after it) that its contract admits, what they held before, which answers refuse with which number, and the
+-- numbers of the call.
+pub record Demand1 {Answer Lent : Type 0} (Outcome : Answer → Lent → Type 0) (before : Lent) (Refuses : Answer → ℕ → Type 0) (numbers : List ℕ) : Type 0 where
+  -- there is an answer, ..
+  pub answered : (answer : Answer) × ((after : Lent) × Outcome answer after)
+  -- .. and only one, with one content of each lent buffer;
+  pub one-outcome : (answer₁ answer₂ : Answer) (after₁ after₂ : Lent) → Outcome answer₁ after₁ → Outcome answer₂ after₂ → (answer₁ ≡ answer₂) × (after₁ ≡ after₂)
+  -- a refusal's number is one of the call's, and every lent byte is as it was
+  pub refusal : (answer : Answer) (number : ℕ) (after : Lent) → Outcome answer after → Refuses answer number → (among number numbers ≡ true) × (after ≡ before)
+
+-- The calls, each with all its inputs, and their numbers (01, "Refusal numbers").
+pub record EveryCall : Type 0 where
+  pub put : (queue : List ℕ) (sender : Sender) (packet : List ℕ)
+      → Demand1 {Answer = PutAnswer} (PutOutcome queue sender packet) queue (λ answer number. answer ≡ putting.Refused number) (2 ∷ 3 ∷ 4 ∷ 5 ∷ [])
+  pub next-frame : (taps : ℕ) (fields : Fields) (sender : Sender) (queue out : List ℕ)
+      → Demand1 {Answer = NextAnswer} {Lent = List ℕ × List ℕ} (λ answer after. NextOutcome taps fields sender queue out answer (after .0) (after .1)) (queue, out)
+      (λ answer number. answer ≡ sending.Refused number) (1 ∷ 2 ∷ 3 ∷ 6 ∷ [])
+  pub receive : (taps : ℕ) (frame : List ℕ) (receiver : Receiver) (hold list : List ℕ)
+      → Demand1 {Answer = ReceiveAnswer} {Lent = List ℕ × List ℕ} (λ answer after. ReceiveOutcome taps frame receiver hold list answer (after .0) (after .1)) (hold, list)
+      (λ answer number. answer ≡ receiving.Refused number) (1 ∷ 2 ∷ 3 ∷ 7 ∷ 8 ∷ 9 ∷ 10 ∷ 11 ∷ 12 ∷ 13 ∷ 14 ∷ 15 ∷ [])
+  -- the two halves of receiving
+  pub open-frame : (taps : ℕ) (frame area : List ℕ)
+      → Demand1 {Answer = OpenAnswer} (OpenOutcome taps frame area) area (λ answer number. answer ≡ opening.Refused number) (1 ∷ 2 ∷ 7 ∷ 8 ∷ 9 ∷ 10 ∷ 11 ∷ 12 ∷ 13 ∷ [])
+  pub apply : (header : Header) (area : List ℕ) (receiver : Receiver) (hold list : List ℕ)
+      → Demand1 {Answer = ApplyAnswer} {Lent = List ℕ × List ℕ} (λ answer after. ApplyOutcome header area receiver hold list answer (after .0) (after .1)) (hold, list)
+      (λ answer number. answer ≡ applying.Refused number) (2 ∷ 3 ∷ 14 ∷ 15 ∷ [])
+  -- nothing is written by the calls below, but for code_header
+  pub entry : (list : List ℕ) (position : ℕ)
+      → Demand1 {Answer = EntryAnswer} {Lent = Unit {0}} (λ answer after. answer ≡ entryAnswer list position) tt (λ answer number. answer ≡ listing.Refused number) (16 ∷ [])
+  -- the bytes handed back and where they stand; an empty part at a refusal
+  pub packet : (list : List ℕ) (from : ℕ × ℕ) (position : ℕ)
+      → Demand1 {Answer = List ℕ × (ℕ × ℕ)} {Lent = Unit {0}} (λ answer after. PacketOutcome list from position (answer .0) (answer .1)) tt (λ answer number. ⊥) []
+  pub code-header : (header : Header) (out : List ℕ)
+      → Demand1 {Answer = CodeAnswer} (CodeHeaderOutcome header out) out (λ answer number. answer ≡ coding.Refused number) (2 ∷ 6 ∷ [])
+  pub read-header : (bytes : List ℕ)
+      → Demand1 {Answer = ReadAnswer} {Lent = Unit {0}} (λ answer after. answer ≡ readHeader bytes) tt (λ answer number. answer ≡ reading.Refused number) (2 ∷ 9 ∷ 10 ∷ 11 ∷ [])
+  pub level : (code : ℕ) → Demand1 {Answer = ℤ} {Lent = Unit {0}} (λ answer after. answer ≡ levelOf code) tt (λ answer number. ⊥) []

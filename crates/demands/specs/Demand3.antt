@@ -1,0 +1,150 @@
+-- DEMAND 3, over the calls themselves. A history has the calls made to a sender and what became of each frame that it sent; with each call stand what it was given, what it answered and
+-- the lent bytes that it left. `SenderCalls` and `ReceiverCalls` ask of each call that it met its contract, the record that its `ensures` names, in the state and with the bytes that the
+-- call before it left. So whatever the functions do is in a history, and no model of them stands beside. `demand3-holds` in proofs/Demand3.antt: every history keeps the promise.
+use mathlib.Core.Path.{_≡_}
+use mathlib.Core.Bool.{true}
+use mathlib.Core.Option.{Option, none, some}
+use mathlib.Core.List.{List, [], _∷_, map}
+use Prim.Native.Nat.{ℕ, zero, suc, _≤_}
+use lib.ListN.{length, take}
+use Rattle.basics.specs.Lists.{Bytes}
+use Rattle.scrambler.specs.Scrambler.{tapsAllowed}
+use Rattle.header.specs.declared.Fields.{Fields}
+use Rattle.frame.specs.Opening.{openedHeader, openedArea}
+use Rattle.link.specs.Link.{Packet, Piece, Queue, Answer, taken, refused}
+use Rattle.link.specs.Ledger.{Mark, lost, accepted, Limit}
+use Rattle.link.specs.Demand3.{Demand3}
+use Rattle.joining.specs.Joining.{orNone}
+use Rattle.sender.specs.Put.{freshSender, PutOutcome}
+use Rattle.sender.specs.Next.{queueIn, NextOutcome}
+use Rattle.sender.specs.declared.Sender.{Sender}
+use Rattle.sender.specs.declared.PutAnswer.{PutAnswer}
+use Rattle.sender.specs.declared.PutAnswer.the-variants as put
+use Rattle.sender.specs.declared.NextAnswer.{NextAnswer}
+use Rattle.sender.specs.declared.NextAnswer.the-variants as next
+use Rattle.receiver.specs.Applying.{freshReceiver, piecesOf}
+use Rattle.receiver.specs.Receiving.{ReceiveOutcome}
+use Rattle.receiver.specs.declared.Receiver.{Receiver}
+use Rattle.receiver.specs.declared.ReceiveAnswer.{ReceiveAnswer}
+use Rattle.receiver.specs.declared.ReceiveAnswer.the-variants as receive
+use Rattle.list.specs.Reading.{packetsRead}
+
+-- ---------------------------------------------------------------- the sender's calls, refused ones among them
+
+-- what was given beside the sender's state and its queue; the answer; the bytes of the queue and of the frame's buffer after the call
+pub data SenderCall : Type 0 where
+  callPut : (packet : List ℕ) (answer : PutAnswer) (queue : List ℕ) → SenderCall
+  callNext : (fields : Fields) (out : List ℕ) (answer : NextAnswer) (queue after : List ℕ) → SenderCall
+
+-- the state for the next call: a refusal brings no new one
+abbrev pub putLeaves : Sender → PutAnswer → Sender
+putLeaves sender (put.Taken after) = after
+putLeaves sender (put.Refused number) = sender
+
+abbrev pub nextLeaves : Sender → NextAnswer → Sender
+nextLeaves sender (next.Sent after kind) = after
+nextLeaves sender (next.Refused number) = sender
+
+-- each call meets its contract, given the state and the queue that the call before it left; a packet is bytes, as any slice of u8 is
+abbrev pub SenderCalls : ℕ → Sender → List ℕ → List SenderCall → Type 0
+SenderCalls taps sender queue [] = Unit {0}
+SenderCalls taps sender queue (callPut packet answer left ∷ calls) =
+    Bytes packet × PutOutcome queue sender packet answer left × SenderCalls taps (putLeaves sender answer) left calls
+SenderCalls taps sender queue (callNext fields out answer left after ∷ calls) =
+    NextOutcome taps fields sender queue out answer left after × SenderCalls taps (nextLeaves sender answer) left calls
+
+-- the packets that were taken
+abbrev pub packetsPut : List SenderCall → List Packet
+packetsPut [] = []
+packetsPut (callPut packet (put.Taken after) queue ∷ calls) = packet ∷ packetsPut calls
+packetsPut (callPut packet (put.Refused number) queue ∷ calls) = packetsPut calls
+packetsPut (callNext fields out answer queue after ∷ calls) = packetsPut calls
+
+-- the frames that were sent: 2,081 bytes at the front of each call's buffer
+abbrev pub framesSent : List SenderCall → List (List ℕ)
+framesSent [] = []
+framesSent (callPut packet answer queue ∷ calls) = framesSent calls
+framesSent (callNext fields out (next.Sent sender kind) queue after ∷ calls) = take 2081 after ∷ framesSent calls
+framesSent (callNext fields out (next.Refused number) queue after ∷ calls) = framesSent calls
+
+-- what waits in the queue after all calls
+abbrev pub queueLeft : Sender → List ℕ → List SenderCall → Queue
+queueLeft sender queue [] = queueIn (take (sender .used) queue)
+queueLeft sender queue (callPut packet answer left ∷ calls) = queueLeft (putLeaves sender answer) left calls
+queueLeft sender queue (callNext fields out answer left after ∷ calls) = queueLeft (nextLeaves sender answer) left calls
+
+-- the pieces of packets that a frame carries, read off its bytes; the ledger of crate link is read off these
+abbrev pub piecesCarried : ℕ → List ℕ → List Piece
+piecesCarried taps frame = orNone (piecesOf (openedHeader taps frame .kind) (openedArea taps frame))
+
+-- ---------------------------------------------------------------- what becomes of a frame, and the receiver's calls
+
+-- It is missing; or it comes as it was sent; or it comes damaged, as any other bytes, and is refused. With one that comes: the list's buffer, the answer, the bytes of the hold and
+-- of the list after the call.
+pub data Fate : Type 0 where
+  missing : Fate
+  arrives : (list : List ℕ) (answer : ReceiveAnswer) (hold after : List ℕ) → Fate
+  damaged : (other list : List ℕ) (number : ℕ) (hold after : List ℕ) → Fate
+
+abbrev pub receiveLeaves : Receiver → ReceiveAnswer → Receiver
+receiveLeaves receiver (receive.Received header missed packets listed after) = after
+receiveLeaves receiver (receive.Refused number) = receiver
+
+-- The frames come in the order in which they were sent, once each, and nothing else comes. Each call meets its contract, given the state and the hold that the call before it left,
+-- and a list buffer of the listed size. Frames past the end of the fates have not come yet.
+abbrev pub ReceiverCalls : ℕ → Receiver → List ℕ → List Fate → List (List ℕ) → Type 0
+ReceiverCalls taps receiver hold [] frames = Unit {0}
+ReceiverCalls taps receiver hold (fate ∷ fates) [] = ⊥
+ReceiverCalls taps receiver hold (missing ∷ fates) (frame ∷ frames) = ReceiverCalls taps receiver hold fates frames
+ReceiverCalls taps receiver hold (arrives list answer left after ∷ fates) (frame ∷ frames) =
+    (10907 ≤ length list) × ReceiveOutcome taps frame receiver hold list answer left after × ReceiverCalls taps (receiveLeaves receiver answer) left fates frames
+ReceiverCalls taps receiver hold (damaged other list number left after ∷ fates) (frame ∷ frames) =
+    ReceiveOutcome taps other receiver hold list (receive.Refused number) left after × ReceiverCalls taps receiver left fates frames
+
+-- whether each frame was accepted: mark i is the mark of frame i
+abbrev pub markOf : Fate → Mark
+markOf missing = lost
+markOf (arrives list answer hold after) = accepted
+markOf (damaged other list number hold after) = lost
+
+abbrev pub marks : List Fate → ℕ → Mark
+marks [] i = lost
+marks (fate ∷ fates) zero = markOf fate
+marks (fate ∷ fates) (suc i) = marks fates i
+
+-- What the caller learns from a frame that comes as it was sent: the missed count, and the packets that `entry` and `packet` read from the listed bytes. A 16 while reading counts as a
+-- refusal, and demand 3 excludes it.
+abbrev pub readOut : ℕ → Option (List Packet) → Answer
+readOut missed none = refused 16
+readOut missed (some packets) = taken missed packets
+
+abbrev pub learnedFrom : ReceiveAnswer → List ℕ → Answer
+learnedFrom (receive.Received header missed packets listed receiver) list = readOut missed (packetsRead (take listed list))
+learnedFrom (receive.Refused number) list = refused number
+
+abbrev pub learned : List Fate → List Answer
+learned [] = []
+learned (missing ∷ fates) = learned fates
+learned (arrives list answer hold after ∷ fates) = learnedFrom answer after ∷ learned fates
+learned (damaged other list number hold after ∷ fates) = learned fates
+
+-- ---------------------------------------------------------------- the demand
+
+-- what is supposed
+pub record History (taps : ℕ) (queue hold : List ℕ) (calls : List SenderCall) (fates : List Fate) : Type 0 where
+  -- the same allowed taps throughout;
+  pub allowed : tapsAllowed taps ≡ true
+  -- any first contents of the lent buffers: the queue's (of another size than 32,768 it is refused by every call) and the hold's;
+  pub queue-bytes : Bytes queue
+  pub hold-size : length hold ≡ 9000
+  -- calls to a fresh sender, in any order, refused ones among them, with any header fields and any frame buffers;
+  pub sent : SenderCalls taps freshSender queue calls
+  -- a fresh receiver, and what came to it;
+  pub came : ReceiverCalls taps freshReceiver hold fates (framesSent calls)
+  -- no more than 65,535 frames in a row missing or refused between two accepted ones
+  pub limit : Limit (marks fates)
+
+-- what is promised: `Demand3` in crates/link/specs/Demand3.antt, of the packets taken, the frames sent, what is left in the queue, the fates and what the caller learned
+abbrev pub Promise : ℕ → List ℕ → List SenderCall → List Fate → Type 0
+Promise taps queue calls fates =
+    Demand3 (packetsPut calls) (map (piecesCarried taps) (framesSent calls)) (queueLeft freshSender queue calls) (marks fates) (learned fates)
