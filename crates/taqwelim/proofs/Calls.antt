@@ -35,14 +35,14 @@ pub next-call-one : (taps : ℕ) (fields : FlatFields) (sender : FlatSender) (qu
 next-call-one taps fields sender queue out r₁ r₂ queue₁ queue₂ out₁ out₂ x y =
     let one =
     next-frame-one taps (fieldsOf fields) (senderOf sender) queue out (x .answer) (y .answer) queue₁ queue₂ out₁ out₂ (x .outcome) (y .outcome) in
-    (same-numbers (flatNext sender) (x .answer) (y .answer) r₁ r₂ (one .0) (x .flat) (y .flat), one .1)
+    (same-numbers (flatNext sender) (x .answer) (y .answer) r₁ r₂ (one .0) (x .flat) (y .flat), one .1, one .2)
 
 pub receive-call-one : (taps : ℕ) (frame : List ℕ) (receiver : FlatReceiver) (hold list : List ℕ) (r₁ r₂ : FlatReceive) (hold₁ hold₂ list₁ list₂ : List ℕ)
     → ReceiveCall taps frame receiver hold list r₁ hold₁ list₁ → ReceiveCall taps frame receiver hold list r₂ hold₂ list₂
     → (r₁ ≡ r₂) × (hold₁ ≡ hold₂) × (list₁ ≡ list₂)
 receive-call-one taps frame receiver hold list r₁ r₂ hold₁ hold₂ list₁ list₂ x y =
     let one = receive-one taps frame (receiverOf receiver) hold list (x .answer) (y .answer) hold₁ hold₂ list₁ list₂ (x .outcome) (y .outcome) in
-    (same-numbers (flatReceive receiver) (x .answer) (y .answer) r₁ r₂ (one .0) (x .flat) (y .flat), one .1)
+    (same-numbers (flatReceive receiver) (x .answer) (y .answer) r₁ r₂ (one .0) (x .flat) (y .flat), one .1, one .2)
 
 pub code-call-one : (header : FlatHeader) (before : List ℕ) (r₁ r₂ : ℕ) (after₁ after₂ : List ℕ)
     → CodeCall header before r₁ after₁ → CodeCall header before r₂ after₂ → (r₁ ≡ r₂) × (after₁ ≡ after₂)

@@ -1,38 +1,30 @@
 use borrow.Author.Needs.{needs}
 use Rattle.flat.proofs.answers.flat_entry.Statement.{statement}
 use Rattle.flat.proofs.answers.flat_entry.Tie as tie
-use Rattle.flat.proofs.answers.flat_entry.Reads as reads
-use Rattle.flat.proofs.answers.flat_entry.Lts as lts
 
--- src/answers.rt:111:13
 enum-known-answer : tie.Need-enum-known-answer
 enum-known-answer c = search needs
 
--- src/answers.rt:121:29
 enum-told : tie.Need-enum-told
 enum-told c = search needs
 
--- src/answers.rt:128:30
 enum-known-answer-2 : tie.Need-enum-known-answer-2
 enum-known-answer-2 c = search needs
 
--- src/answers.rt:106:1
 returns : tie.Need-returns
 returns c =
     let at-answer = c .before .answer in
-    simp ((at-answer .given .1))
+    simp (at-answer .given .1)
 
--- src/answers.rt:106:1
 returns-2 : tie.Need-returns-2
 returns-2 c =
     let at-enum-told = c .enum-told in
-    simp ((at-enum-told .given .1))
+    simp (at-enum-told .given .1)
 
--- src/answers.rt:106:1
 returns-3 : tie.Need-returns-3
 returns-3 c =
     let at-answer2 = c .before .answer2 in
-    simp ((at-answer2 .given .1))
+    simp (at-answer2 .given .1)
 
 pub flat-entry-spec : {M : Type 1} → statement M
 flat-entry-spec =

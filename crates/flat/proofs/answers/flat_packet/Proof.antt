@@ -1,30 +1,22 @@
 use borrow.Author.Needs.{needs}
 use Rattle.flat.proofs.answers.flat_packet.Statement.{statement}
 use Rattle.flat.proofs.answers.flat_packet.Tie as tie
-use Rattle.flat.proofs.answers.flat_packet.Reads as reads
-use Rattle.flat.proofs.answers.flat_packet.Lts as lts
 
--- src/answers.rt:143:13
 enum-known-answer : tie.Need-enum-known-answer
 enum-known-answer c = search needs
 
--- src/answers.rt:147:29
 enum-told : tie.Need-enum-told
 enum-told c = search needs
 
--- src/answers.rt:151:36
 enum-told-2 : tie.Need-enum-told-2
 enum-told-2 c = search needs
 
--- src/answers.rt:138:1
 returns : tie.Need-returns
 returns c = simp (c .before .answer .given .1)
 
--- src/answers.rt:138:1
 returns-2 : tie.Need-returns-2
 returns-2 c = simp (c .enum-told .given .1)
 
--- src/answers.rt:138:1
 returns-3 : tie.Need-returns-3
 returns-3 c = simp (c .enum-told2 .given .1)
 

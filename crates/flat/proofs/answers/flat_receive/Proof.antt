@@ -1,39 +1,34 @@
 use borrow.Author.Needs.{needs}
 use Rattle.flat.proofs.answers.flat_receive.Statement.{statement}
 use Rattle.flat.proofs.answers.flat_receive.Tie as tie
-use Rattle.flat.proofs.answers.flat_receive.Reads as reads
-use Rattle.flat.proofs.answers.flat_receive.Lts as lts
-use Rattle.flat.proofs.headers.flat_header.Reads as flat-header-reads
-use Rattle.flat.proofs.headers.no_header.Reads as no-header-reads
-use Rattle.flat.proofs.states.flat_receiver.Reads as flat-receiver-reads
 
--- src/answers.rt:99:13
 enum-known-answer : tie.Need-enum-known-answer
 enum-known-answer c = search needs
 
--- src/answers.rt:105:21
 flat-header-requires : tie.Need-flat-header-requires
 flat-header-requires c κs = search needs
 
--- src/answers.rt:106:23
 flat-receiver-requires : tie.Need-flat-receiver-requires
 flat-receiver-requires c κs = search needs
 
--- src/answers.rt:112:32
 enum-known-answer-2 : tie.Need-enum-known-answer-2
 enum-known-answer-2 c = search needs
 
--- src/answers.rt:113:21
 no-header-requires : tie.Need-no-header-requires
 no-header-requires c κs = search needs
 
--- src/answers.rt:94:1
 returns : tie.Need-returns
-returns c = ?
+returns c =
+    let at-answer = c .before .before .before .answer in
+    let at-flat-header = c .before .flat-header in
+    let at-flat-receiver = c .flat-receiver in
+    simp (at-answer .given .1, at-flat-header .ensures, at-flat-receiver .ensures)
 
--- src/answers.rt:94:1
 returns-2 : tie.Need-returns-2
-returns-2 c = ?
+returns-2 c =
+    let at-answer2 = c .before .before .answer2 in
+    let at-no-header = c .no-header in
+    simp (at-answer2 .given .1, at-no-header .ensures)
 
 pub flat-receive-spec : {M : Type 1} → statement M
 flat-receive-spec =

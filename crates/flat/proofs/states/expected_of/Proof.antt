@@ -1,15 +1,16 @@
+use borrow.Author.Tests.{eq-eqb, ne-eqb}
 use Rattle.flat.proofs.states.expected_of.Statement.{statement}
 use Rattle.flat.proofs.states.expected_of.Tie as tie
-use Rattle.flat.proofs.states.expected_of.Reads as reads
-use Rattle.flat.proofs.states.expected_of.Lts as lts
 
--- src/states.rt:52:1
 returns : tie.Need-returns
-returns c = ?
+returns c =
+    let at-if1 = c .if1 in
+    simp (eq-eqb _ _ (at-if1 .taken))
 
--- src/states.rt:52:1
 returns-2 : tie.Need-returns-2
-returns-2 c = ?
+returns-2 c =
+    let at-if1 = c .if1 in
+    simp (ne-eqb _ _ (at-if1 .left))
 
 pub expected-of-spec : {M : Type 1} → statement M
 expected-of-spec = tie.close (tie.spec returns returns-2)
