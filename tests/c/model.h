@@ -1,5 +1,5 @@
-/* A plain model of every call, written from the papers and sharing nothing with the library but the header's types: each call does to its buffers and answers what
- * the call of the same name should. It goes bit by bit where the papers do, and keeps no tables but the field's powers. */
+/* A plain model of every call, written from the papers and sharing nothing with the library but the header's types: each
+ * call does to its buffers and answers what the call of the same name should. It goes bit by bit where the papers do. */
 #ifndef MODEL_H
 #define MODEL_H
 

@@ -1,4 +1,5 @@
-/* The numbers to try of paper 01, through the calls. Those of the codes, which no call shows alone, are tried on the model, and on the library by whole frames. */
+/* The numbers to try of paper 01, through the calls. Those of the codes, which no call shows alone, are tried on the
+ * model, and on the library by whole frames. */
 #include "both.h"
 
 #include <string.h>

@@ -1,5 +1,6 @@
-/* A session over a shaken beam: packets are put, frames are sent, some are lost in bursts and some damaged. Beside the model's own answers, a ledger that counts bytes
- * only says which packets have to come out of which frame: those of which no frame was lost, in order, and no other. */
+/* A session over a shaken beam: packets are put, frames are sent, some are lost in bursts and some damaged. Beside the
+ * model, a ledger that only counts bytes says which packets have to come out of which frame: those of which no frame was
+ * lost, in order, and no other. */
 #include "both.h"
 
 #include <stdio.h>
