@@ -220,6 +220,34 @@ static void receive(void)
     forge(0x0772, 0xFD, 0xFB, 0, 0, 0), receive_refused(15, taps, 2081, holds, 9000, 10907);
 }
 
+/* What is just not refused: held parts that may go on or end a packet, and the longest list. */
+static void receive_accepted(unsigned mark, size_t held, size_t left, size_t listed)
+{
+    taqwelim_receiver receiver = {held, 7, 1};
+    taqwelim_receive_answer answer;
+    forge(mark, 0xFD, 0xFB, 0, 0, 0);
+    expect(both_receive(taps, 2081, &receiver, 9000, 10907, &answer) == 0, "receive is not refused");
+    expect(answer.receiver.held == left && answer.listed == listed, "what is held and listed then");
+}
+
+static void edges(void)
+{
+    receive_accepted(0x0772, 7093, 8999, 0); /* 1,906 bytes more */
+    receive_refused(15, taps, 2081, (taqwelim_receiver){7094, 7, 1}, 9000, 10907);
+    receive_accepted(0x4002, 8998, 0, 9002);
+    receive_refused(15, taps, 2081, (taqwelim_receiver){8999, 7, 1}, 9000, 10907);
+    receive_accepted(0x4002, 0, 0, 0); /* nothing is held: skipped */
+    receive_accepted(0x8772, 8999, 1906, 0);
+    uint8_t header[16], area[AREA] = {0x40, 0x01, 0xAB, 0xC7, 0x6F}, data[DATA], bytes[TAQWELIM_FRAME_SIZE];
+    taqwelim_receiver receiver = {8999, 7, 1};
+    taqwelim_receive_answer answer;
+    model_header_bytes((taqwelim_header){good_fields(), 7, TAQWELIM_DATA}, header);
+    model_data(area, data);
+    model_frame(taps, header, data, bytes);
+    set_bytes(&frame, 0, bytes, sizeof bytes);
+    expect(both_receive(taps, 2081, &receiver, 9000, 10907, &answer) == 0 && answer.listed == 10907 && answer.packets == 2, "the longest list");
+}
+
 /* ---- entry: 16 */
 
 static void entry_refused(size_t length, size_t position)
@@ -250,5 +278,6 @@ void try_refusals(void)
     fields();
     read();
     receive();
+    edges();
     entry();
 }
