@@ -194,6 +194,8 @@ static void forge(unsigned mark, uint8_t d4, uint8_t d10, int sum_16, int sum_32
 
 static void receive(void)
 {
+    /* no mark: a bit of 13 to 11, no length, past the area, not last and not at its end */
+    static const unsigned marks[] = {0xC801, 0xD001, 0xE001, 0x8000, 0xC000, 0xC773, 0xC7FF, 0x8001, 0x8771};
     taqwelim_receiver fresh = taqwelim_fresh_receiver(), holds = {8999, 7, 1}, past = {9000, 7, 1}, two = {0, 7, 2}, none = {0, 7, 0};
     forge(0x4001, 0xFD, 0xFB, 0, 0, 8);
     receive_refused(1, 0, 0, past, 0, 0);
@@ -215,6 +217,8 @@ static void receive(void)
     forge(0x4001, 0xFD, 0xFB, 0, 1, 2080), receive_refused(12, taps, 2081, fresh, 9000, 10907);
     forge(0x4000, 0xFD, 0xFB, 0, 1, 0), receive_refused(13, taps, 2081, fresh, 9000, 10907);
     forge(0x4000, 0xFD, 0xFB, 0, 0, 0), receive_refused(14, taps, 2081, fresh, 9000, 10907);
+    for (size_t i = 0; i < sizeof marks / sizeof marks[0]; i++)
+        forge(marks[i], 0xFD, 0xFB, 0, 0, 0), receive_refused(14, taps, 2081, fresh, 9000, 10907);
     forge(0x0000, 0xFD, 0xFB, 0, 0, 0), receive_refused(14, taps, 2081, holds, 9000, 10907);
     forge(0x4002, 0xFD, 0xFB, 0, 0, 0), receive_refused(15, taps, 2081, holds, 9000, 10907);
     forge(0x0772, 0xFD, 0xFB, 0, 0, 0), receive_refused(15, taps, 2081, holds, 9000, 10907);

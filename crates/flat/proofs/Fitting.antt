@@ -1,4 +1,5 @@
--- What C gets wrong is refused and never mended: where a field stands for nothing, the fields do not fit (6); numbers that are no receiver's state hold too much (3).
+-- What C gets wrong is refused and never mended: where a field stands for nothing, the fields do not fit (6); numbers that are no receiver's state
+-- hold too much (3).
 use mathlib.Core.Path.{_≡_}
 use mathlib.Core.Bool.{Bool, true, false, _&&_, and-false}
 use lib.Dec.{leb}

@@ -1,4 +1,5 @@
--- What C gets for each answer of the library: the refusal's number, 0 for none, and the values. After a refusal the state is the one that was given, and all else is 0.
+-- What C gets for each answer of the library: the refusal's number, 0 for none, and the values. After a refusal the state is the one that was given,
+-- and all else is 0.
 use Rattle.header.specs.Header.{kindNumber}
 use Rattle.header.specs.declared.ReadAnswer.{ReadAnswer}
 use Rattle.header.specs.declared.ReadAnswer.the-variants as read

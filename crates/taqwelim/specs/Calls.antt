@@ -1,4 +1,5 @@
--- The outcome of each call for C, for all inputs: it is the outcome of one call of the library, on what C's numbers stand for, and C gets that call's answer as numbers.
+-- The outcome of each call for C, for all inputs: it is the outcome of one call of the library, on what C's numbers stand for, and C gets that call's
+-- answer as numbers.
 use mathlib.Core.Path.{_≡_}
 use mathlib.Core.List.{List}
 use Prim.Native.Nat.{ℕ}

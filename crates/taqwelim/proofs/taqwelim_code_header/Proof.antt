@@ -19,7 +19,7 @@ returns c =
     let at-code-header = c .before .before .before .code-header in
     let at-header-of = c .before .before .before .before .before .header-of in
     let at-code-number = c .code-number in
-    record { answer = (at-code-header .result); outcome = rw (← (at-header-of .ensures)) (at-code-header .ensures); flat = (at-code-number .ensures) }
+    record { answer = at-code-header .result; outcome = rw (← (at-header-of .ensures)) (at-code-header .ensures); flat = at-code-number .ensures }
 
 pub taqwelim-code-header-spec : {M : Type 1} → statement M
 taqwelim-code-header-spec =

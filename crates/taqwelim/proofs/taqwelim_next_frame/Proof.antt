@@ -26,7 +26,11 @@ returns c =
     let at-fields-of = c .before .before .before .before .before .before .before .before .before .fields-of in
     let at-sender-of = c .before .before .before .before .before .before .before .before .sender-of in
     let at-flat-next = c .flat-next in
-    record { answer = (at-next-frame .result); outcome = rw (← (at-fields-of .ensures), ← (at-sender-of .ensures)) (at-next-frame .ensures); flat = (at-flat-next .ensures) }
+    record {
+      answer = at-next-frame .result;
+      outcome = rw (← (at-fields-of .ensures), ← (at-sender-of .ensures)) (at-next-frame .ensures);
+      flat = at-flat-next .ensures;
+    }
 
 pub taqwelim-next-frame-spec : {M : Type 1} → statement M
 taqwelim-next-frame-spec =

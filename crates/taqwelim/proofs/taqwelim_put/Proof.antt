@@ -19,7 +19,7 @@ returns c =
     let at-put = c .before .before .before .put in
     let at-sender-of = c .before .before .before .before .sender-of in
     let at-flat-put = c .flat-put in
-    record { answer = (at-put .result); outcome = rw (← (at-sender-of .ensures)) (at-put .ensures); flat = (at-flat-put .ensures) }
+    record { answer = at-put .result; outcome = rw (← (at-sender-of .ensures)) (at-put .ensures); flat = at-flat-put .ensures }
 
 pub taqwelim-put-spec : {M : Type 1} → statement M
 taqwelim-put-spec =

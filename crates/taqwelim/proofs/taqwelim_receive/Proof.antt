@@ -22,7 +22,7 @@ returns c =
     let at-receive = c .before .before .before .before .before .receive in
     let at-receiver-of = c .before .before .before .before .before .before .before .before .receiver-of in
     let at-flat-receive = c .flat-receive in
-    record { answer = (at-receive .result); outcome = rw (← (at-receiver-of .ensures)) (at-receive .ensures); flat = (at-flat-receive .ensures) }
+    record { answer = at-receive .result; outcome = rw (← (at-receiver-of .ensures)) (at-receive .ensures); flat = at-flat-receive .ensures }
 
 pub taqwelim-receive-spec : {M : Type 1} → statement M
 taqwelim-receive-spec =

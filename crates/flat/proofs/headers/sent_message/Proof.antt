@@ -10,7 +10,7 @@ unfolding sentMessage
 returns c =
     let at-args = c .before .before .args in
     let at-if1 = c .if1 in
-    simp (not-true ((at-args .others)) (at-if1 .taken))
+    simp (not-true (at-args .others) (at-if1 .taken))
 
 flags-fit-requires : tie.Need-flags-fit-requires
 flags-fit-requires c κs = search needs
@@ -22,7 +22,7 @@ returns-2 c =
     let at-if1 = c .before .before .if1 in
     let at-flags-fit = c .before .flags-fit in
     let at-if2 = c .if2 in
-    simp (not-false ((at-args .others)) (at-if1 .left), sym (at-flags-fit .ensures) ∙ not-true _ (at-if2 .taken))
+    simp (not-false (at-args .others) (at-if1 .left), sym (at-flags-fit .ensures) ∙ not-true _ (at-if2 .taken))
 
 numbers-fit-requires : tie.Need-numbers-fit-requires
 numbers-fit-requires c κs = search needs
@@ -36,7 +36,9 @@ returns-3 c =
     let at-if2 = c .before .before .if2 in
     let at-numbers-fit = c .before .numbers-fit in
     let at-if3 = c .if3 in
-    simp (not-false ((at-args .others)) (at-if1 .left), sym (at-flags-fit .ensures) ∙ not-false _ (at-if2 .left), sym (at-numbers-fit .ensures) ∙ not-true _ (at-if3 .taken))
+    let others = not-false (at-args .others) (at-if1 .left) in
+    let flags = sym (at-flags-fit .ensures) ∙ not-false _ (at-if2 .left) in
+    simp (others, flags, sym (at-numbers-fit .ensures) ∙ not-true _ (at-if3 .taken))
 
 message-of-requires : tie.Need-message-of-requires
 message-of-requires c κs = search needs
@@ -51,7 +53,9 @@ returns-4 c =
     let at-numbers-fit = c .before .before .numbers-fit in
     let at-if3 = c .before .if3 in
     let at-message-of = c .message-of in
-    simp (not-false ((at-args .others)) (at-if1 .left), sym (at-flags-fit .ensures) ∙ not-false _ (at-if2 .left), sym (at-numbers-fit .ensures) ∙ not-false _ (at-if3 .left), at-message-of .ensures)
+    let others = not-false (at-args .others) (at-if1 .left) in
+    let flags = sym (at-flags-fit .ensures) ∙ not-false _ (at-if2 .left) in
+    simp (others, flags, sym (at-numbers-fit .ensures) ∙ not-false _ (at-if3 .left), at-message-of .ensures)
 
 pub sent-message-spec : {M : Type 1} → statement M
 sent-message-spec =

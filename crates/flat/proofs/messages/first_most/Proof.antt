@@ -49,7 +49,15 @@ returns-8 : tie.Need-returns-8
 unfolding firstMost
 returns-8 c =
     let at-match = c .match in
-    simp (ne-eqb _ _ (at-match .rest .0 .0 .0 .0 .0 .0 .1), ne-eqb _ _ (at-match .rest .0 .0 .0 .0 .0 .1), ne-eqb _ _ (at-match .rest .0 .0 .0 .0 .1), ne-eqb _ _ (at-match .rest .0 .0 .0 .1), ne-eqb _ _ (at-match .rest .0 .0 .1), ne-eqb _ _ (at-match .rest .0 .1), ne-eqb _ _ (at-match .rest .1))
+    simp (
+      ne-eqb _ _ (at-match .rest .0 .0 .0 .0 .0 .0 .1),
+      ne-eqb _ _ (at-match .rest .0 .0 .0 .0 .0 .1),
+      ne-eqb _ _ (at-match .rest .0 .0 .0 .0 .1),
+      ne-eqb _ _ (at-match .rest .0 .0 .0 .1),
+      ne-eqb _ _ (at-match .rest .0 .0 .1),
+      ne-eqb _ _ (at-match .rest .0 .1),
+      ne-eqb _ _ (at-match .rest .1),
+    )
 
 pub first-most-spec : {M : Type 1} → statement M
 first-most-spec =

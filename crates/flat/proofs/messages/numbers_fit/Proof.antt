@@ -51,7 +51,10 @@ returns-4 c =
     let at-second-most = c .before .before .before .before .second-most in
     let at-if3 = c .before .before .if3 in
     let at-third-most = c .before .third-most in
-    with-test (both-true _ _ (both-true _ _ (le-leb _ _ (at-if1 .left)) (sym (ap (leb ((at-args .message .first))) (at-first-most .ensures)) ∙ le-leb _ _ (at-if2 .left))) (sym (ap (leb ((at-args .message .second))) (at-second-most .ensures)) ∙ le-leb _ _ (at-if3 .left))) (ap (leb ((at-args .message .third))) (at-third-most .ensures))
+    let numbers = at-args .message in
+    let first = sym (ap (leb (numbers .first)) (at-first-most .ensures)) ∙ le-leb _ _ (at-if2 .left) in
+    let second = sym (ap (leb (numbers .second)) (at-second-most .ensures)) ∙ le-leb _ _ (at-if3 .left) in
+    with-test (both-true _ _ (both-true _ _ (le-leb _ _ (at-if1 .left)) first) second) (ap (leb (numbers .third)) (at-third-most .ensures))
 
 pub numbers-fit-spec : {M : Type 1} → statement M
 numbers-fit-spec =

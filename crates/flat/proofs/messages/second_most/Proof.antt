@@ -37,7 +37,13 @@ returns-6 : tie.Need-returns-6
 unfolding secondMost
 returns-6 c =
     let at-match = c .match in
-    simp (ne-eqb _ _ (at-match .rest .0 .0 .0 .0 .1), ne-eqb _ _ (at-match .rest .0 .0 .0 .1), ne-eqb _ _ (at-match .rest .0 .0 .1), ne-eqb _ _ (at-match .rest .0 .1), ne-eqb _ _ (at-match .rest .1))
+    simp (
+      ne-eqb _ _ (at-match .rest .0 .0 .0 .0 .1),
+      ne-eqb _ _ (at-match .rest .0 .0 .0 .1),
+      ne-eqb _ _ (at-match .rest .0 .0 .1),
+      ne-eqb _ _ (at-match .rest .0 .1),
+      ne-eqb _ _ (at-match .rest .1),
+    )
 
 pub second-most-spec : {M : Type 1} → statement M
 second-most-spec = tie.close (tie.spec returns returns-2 returns-3 returns-4 returns-5 returns-6)
