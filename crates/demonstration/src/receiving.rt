@@ -1,0 +1,134 @@
+// The far end: what arrives is received, and the packets that come out go to the recorder and the tuner.
+use crate::line;
+use crate::session::Session;
+use crate::session::TAPS;
+use list::EntryAnswer;
+use receiver::ReceiveAnswer;
+use scenario::beam;
+use scenario::beam::Fate;
+use scenario::blocks;
+
+// Whether a packet is, byte for byte, the block that was put under its number.
+fn is_unaltered(packet: &[u8], number: u16) -> bool {
+    if packet.len() != blocks::length_of(number) {
+        return false;
+    }
+    let mut expected = [0u8; 9000];
+    let length = packet.len();
+    blocks::write(number, &mut expected[..length]);
+    lent::are_same(packet, &expected[..length])
+}
+
+// Reads the list from its beginning to its end.
+fn read_out(before: Session, listed: &[u8], out: &mut [u8]) -> Session {
+    let mut session = before;
+    let mut position: usize = 0;
+    let mut column: usize = 68;
+    loop {
+        match list::entry(listed, position) {
+            EntryAnswer::Packet {
+                start,
+                length,
+                next,
+            } => {
+                let packet = list::packet(listed, position);
+                let number = blocks::number_of(packet);
+                let with = session.with_out(number, is_unaltered(packet, number));
+                session = with;
+                column = line::number(out, column, number as u64);
+                column = line::text(out, column, b" ");
+                position = next;
+            }
+            EntryAnswer::End => {
+                return session;
+            }
+            EntryAnswer::Refused(number) => {
+                return session;
+            }
+        }
+    }
+}
+
+fn tell_views(session: Session, out: &mut [u8]) {
+    let recorder = session.recorder;
+    let tuner = session.tuner;
+    line::number_before(out, 86, recorder.blocks);
+    line::number_before(out, 92, recorder.gaps);
+    line::range(
+        out,
+        94,
+        tuner.first,
+        std::num::wrapping_sub_u64(tuner.due, 1),
+    );
+}
+
+// What a refusal's number says of a damaged frame.
+fn tell_refused(number: u8, out: &mut [u8]) {
+    let end = line::text(out, 38, b"refused ");
+    let behind = line::number(out, end, number as u64);
+    match number {
+        2 => line::text(out, behind, b", cut short"),
+        7 => line::text(out, behind, b", preamble"),
+        8 => line::text(out, behind, b", header"),
+        12 => line::text(out, behind, b", payload"),
+        _ => behind,
+    }
+    ;
+}
+
+// What the receiver makes of the bytes that arrive.
+fn arrive(
+    session: Session,
+    arrived: &[u8],
+    hold: &mut [u8],
+    list: &mut [u8],
+    out: &mut [u8],
+) -> Session {
+    let receiver = session.receiver;
+    match receiver::receive(TAPS, arrived, receiver, hold, list) {
+        ReceiveAnswer::Received {
+            header,
+            missed,
+            packets,
+            listed,
+            receiver: next,
+        } => {
+            line::text(out, 38, b"received");
+            line::number_before(out, 66, missed as u64);
+            let read = read_out(session.with_received(next, missed), &list[..listed], out);
+            if packets != 0 {
+                tell_views(read, out);
+            }
+            read
+        }
+        ReceiveAnswer::Refused(number) => {
+            tell_refused(number, out);
+            session.with_refused()
+        }
+    }
+}
+
+// The frame goes through the beam, and what is left of it arrives.
+pub fn through_beam(
+    session: Session,
+    count: u16,
+    frame: &mut [u8],
+    hold: &mut [u8],
+    list: &mut [u8],
+    out: &mut [u8],
+) -> Session {
+    let shake = beam::shake_at(count);
+    line::number_before(out, 12, shake);
+    match beam::fate_of(shake) {
+        Fate::Arrives => arrive(session, frame, hold, list, out),
+        Fate::Damaged => {
+            beam::damage(count, frame);
+            let length = beam::arriving(count);
+            arrive(session, &frame[..length], hold, list, out)
+        }
+        Fate::Lost => {
+            line::text(out, 38, b"lost");
+            session.with_lost()
+        }
+    }
+}

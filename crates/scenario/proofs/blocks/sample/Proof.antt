@@ -1,0 +1,55 @@
+use borrow.Author.Needs.{needs}
+use Rattle.scenario.proofs.blocks.sample.Statement.{statement}
+use Rattle.scenario.proofs.blocks.sample.Tie as tie
+use Rattle.scenario.proofs.blocks.sample.Reads as reads
+use Rattle.scenario.proofs.blocks.sample.Lts as lts
+
+-- src/blocks.rt:20:16
+cast-result : tie.Need-cast-result
+cast-result c = search needs
+
+-- src/blocks.rt:20:9
+returns : tie.Need-returns
+returns c = ?
+
+-- src/blocks.rt:23:16
+cast-result-2 : tie.Need-cast-result-2
+cast-result-2 c = search needs
+
+-- src/blocks.rt:23:9
+returns-2 : tie.Need-returns-2
+returns-2 c = ?
+
+-- src/blocks.rt:25:7
+mul-result : tie.Need-mul-result
+mul-result c = search needs
+
+-- src/blocks.rt:25:30
+mul-result-2 : tie.Need-mul-result-2
+mul-result-2 c = search needs
+
+-- src/blocks.rt:25:7
+add-result : tie.Need-add-result
+add-result c = search needs
+
+-- src/blocks.rt:25:5
+cast-result-3 : tie.Need-cast-result-3
+cast-result-3 c = search needs
+
+-- src/blocks.rt:16:1
+returns-3 : tie.Need-returns-3
+returns-3 c = ?
+
+pub sample-spec : {M : Type 1} → statement M
+sample-spec =
+    tie.close
+    (tie.spec
+    cast-result
+    returns
+    cast-result-2
+    returns-2
+    mul-result
+    mul-result-2
+    add-result
+    cast-result-3
+    returns-3)
