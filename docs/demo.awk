@@ -119,9 +119,9 @@ function draw_keys(top) {
     key(LEFT, top, "received", "DATA received")
     key(LEFT + 145, top, "idle", "IDLE received")
     key(LEFT + 290, top, "damaged", "damaged: refused, with the number")
-    key(LEFT + 570, top, "lost", "lost")
-    key(LEFT + 645, top, "came", "block that came out")
-    key(LEFT + 830, top, "gone", "block that did not: a frame of it is missing")
+    key(LEFT + 580, top, "lost", "lost")
+    key(LEFT + 655, top, "came", "block that came out")
+    key(LEFT + 838, top, "gone", "block that did not: a frame of it is missing")
 }
 
 function draw_style() {

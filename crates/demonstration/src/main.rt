@@ -1,11 +1,9 @@
 // A session over a shaken beam: blocks of samples are put as packets, frames are built, lost, damaged or received, and packets come out.
-mod ledger;
-mod line;
 mod receiving;
 mod sending;
 mod session;
-mod totals;
 
+use report::line;
 use session::Session;
 use vectors::text;
 
@@ -26,13 +24,14 @@ fn step(
     queue: &mut [u8],
     hold: &mut [u8],
     list: &mut [u8],
+    room: &mut [u8],
 ) -> Session {
     let mut out = [b' '; line::WIDTH];
     let mut frame = [0u8; 2081];
     let mut session = before;
     line::number_before(&mut out, 5, count as u64);
     if is_block_due(count) {
-        let next = sending::put_block(session, queue, &mut out);
+        let next = sending::put_block(session, queue, room, &mut out);
         session = next;
     }
     let sent = sending::send(session, queue, &mut frame, &mut out);
@@ -92,11 +91,12 @@ fn main() {
     let mut queue = [0u8; 32768];
     let mut hold = [0u8; 9000];
     let mut list = [0u8; 10907];
+    let mut room = [0u8; 9000];
     let mut session = Session::fresh();
     print_head();
     let mut count: u16 = 0;
     while count < FRAMES {
-        let next = step(session, count, &mut queue, &mut hold, &mut list);
+        let next = step(session, count, &mut queue, &mut hold, &mut list, &mut room);
         session = next;
         count = count + 1;
     }

@@ -1,30 +1,20 @@
 // The far end: what arrives is received, and the packets that come out go to the recorder and the tuner.
-use crate::line;
 use crate::session::Session;
 use crate::session::TAPS;
 use list::EntryAnswer;
 use receiver::ReceiveAnswer;
+use report::line;
 use scenario::beam;
 use scenario::beam::Fate;
 use scenario::blocks;
 
-// Whether a packet is, byte for byte, the block that was put under its number.
-fn is_unaltered(packet: &[u8], number: u16) -> bool {
-    if packet.len() != blocks::length_of(number) {
-        return false;
-    }
-    let mut expected = [0u8; 9000];
-    let length = packet.len();
-    blocks::write(number, &mut expected[..length]);
-    lent::are_same(packet, &expected[..length])
-}
-
-// Reads the list from its beginning to its end.
-fn read_out(before: Session, listed: &[u8], out: &mut [u8]) -> Session {
+// Reads the packets of a list, from its beginning on.
+fn read_out(before: Session, listed: &[u8], packets: usize, out: &mut [u8]) -> Session {
     let mut session = before;
     let mut position: usize = 0;
     let mut column: usize = 68;
-    loop {
+    let mut left = packets;
+    while 0 < left {
         match list::entry(listed, position) {
             EntryAnswer::Packet {
                 start,
@@ -33,8 +23,8 @@ fn read_out(before: Session, listed: &[u8], out: &mut [u8]) -> Session {
             } => {
                 let packet = list::packet(listed, position);
                 let number = blocks::number_of(packet);
-                let with = session.with_out(number, is_unaltered(packet, number));
-                session = with;
+                let read = session.with_out(number, blocks::is_block(number, packet));
+                session = read;
                 column = line::number(out, column, number as u64);
                 column = line::text(out, column, b" ");
                 position = next;
@@ -46,7 +36,9 @@ fn read_out(before: Session, listed: &[u8], out: &mut [u8]) -> Session {
                 return session;
             }
         }
+        left -= 1;
     }
+    session
 }
 
 fn tell_views(session: Session, out: &mut [u8]) {
@@ -95,7 +87,12 @@ fn arrive(
         } => {
             line::text(out, 38, b"received");
             line::number_before(out, 66, missed as u64);
-            let read = read_out(session.with_received(next, missed), &list[..listed], out);
+            let read = read_out(
+                session.with_received(next, missed),
+                report::front(list, listed),
+                packets,
+                out,
+            );
             if packets != 0 {
                 tell_views(read, out);
             }

@@ -1,24 +1,27 @@
 // The near end: blocks are put, and the next frame is built.
-use crate::line;
 use crate::session::Session;
 use crate::session::TAPS;
 use header::FastChannel;
 use header::Fields;
 use header::FrameKind;
 use header::Rxfn;
+use report::line;
 use scenario::blocks;
 use sender::NextAnswer;
 use sender::PutAnswer;
 
-// Puts the next block.
-pub fn put_block(session: Session, queue: &mut [u8], out: &mut [u8]) -> Session {
+// Puts the next block, which is made in the room that is lent.
+pub fn put_block(session: Session, queue: &mut [u8], room: &mut [u8], out: &mut [u8]) -> Session {
     let number = session.put;
     let length = blocks::length_of(number);
-    let mut block = [0u8; 9000];
-    blocks::write(number, &mut block[..length]);
+    if room.len() < length {
+        return session;
+    }
+    let block = &mut room[0..length];
+    blocks::write(number, block);
     line::number_before(out, 19, number as u64);
     let sender = session.sender;
-    match sender::put(queue, sender, &block[..length]) {
+    match sender::put(queue, sender, block) {
         PutAnswer::Taken(next) => {
             line::number_before(out, 25, length as u64);
             session.with_put(next)
@@ -49,7 +52,7 @@ fn waiting(bytes: &[u8]) -> u16 {
     packets
 }
 
-// Of how many packets a part is still to be sent, but for the part of the front one that is already sent: 1 where it is begun.
+// 1 where a part of the packet at the front is sent, and 0 where none is.
 fn begun(bytes: &[u8]) -> u16 {
     if bytes.len() < 2 {
         return 0;
@@ -76,8 +79,9 @@ fn fields() -> Fields {
 
 // The number behind the last block of which all is sent, or a part.
 fn end_of_sent(put: u16, queue: &[u8], used: usize) -> u16 {
-    let whole = std::num::wrapping_sub_u16(put, waiting(&queue[..used]));
-    std::num::wrapping_add_u16(whole, begun(&queue[..used]))
+    let waits = report::front(queue, used);
+    let whole = std::num::wrapping_sub_u16(put, waiting(waits));
+    std::num::wrapping_add_u16(whole, begun(waits))
 }
 
 fn tell_carried(kind: FrameKind, first: u16, end: u16, out: &mut [u8]) {
@@ -99,7 +103,7 @@ pub fn send(session: Session, queue: &mut [u8], frame: &mut [u8], out: &mut [u8]
     let put = session.put;
     let sender = session.sender;
     let used = sender.used;
-    let first = std::num::wrapping_sub_u16(put, waiting(&queue[..used]));
+    let first = std::num::wrapping_sub_u16(put, waiting(report::front(queue, used)));
     match sender::next_frame(TAPS, fields(), sender, queue, frame) {
         NextAnswer::Sent { sender: next, kind } => {
             let end = end_of_sent(put, queue, next.used);

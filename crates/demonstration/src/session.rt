@@ -1,7 +1,7 @@
 // One session: what the sender, the receiver and the two readers know, from frame to frame.
-use crate::ledger::Ledger;
-use crate::totals::Totals;
 use receiver::Receiver;
+use report::ledger::Ledger;
+use report::totals::Totals;
 use scenario::views::Recorder;
 use scenario::views::Tuner;
 use sender::Sender;

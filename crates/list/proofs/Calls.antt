@@ -1,5 +1,5 @@
 -- Any two outcomes that the contracts of `entry` and `packet` admit are equal; and the answer of `entry`, case by case.
-use mathlib.Core.Path.{_≡_, refl, sym, ap, _∙_}
+use mathlib.Core.Path.{_≡_, refl, sym, _∙_}
 use mathlib.Core.Bool.{Bool, true, false}
 use mathlib.Core.List.{List, []}
 use Prim.Native.Nat.{ℕ, _+_, _-_}
@@ -54,9 +54,9 @@ module _ (list : List ℕ) (position : ℕ) where
 
 -- ---- the part handed back: an empty one at the front of the list, or the packet
 module _ (list : List ℕ) (from : ℕ × ℕ) (position : ℕ) where
-  pub no-part : lengthAt list position ≡ 0 → PacketOutcome list from position [] (from .0, 0 + from .1)
+  pub no-part : lengthAt list position ≡ 0 → PacketOutcome list from position [] from
   unfolding packetAt placeAt
-  no-part e = record { bytes = rw e; block = refl; place = rw e }
+  no-part e = record { bytes = rw e; block = refl; place = rw e (omega arith) }
 
   pub the-part : (n : ℕ) → n ≡ lengthAt list position → (n ≡ 0 → ⊥)
       → PacketOutcome list from position (take (position + 2 + n - (position + 2)) (drop (position + 2) list)) (from .0, position + 2 + from .1)

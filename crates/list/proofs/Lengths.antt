@@ -1,4 +1,4 @@
--- The length of the packet at a position, as the code finds it: there is no room for a mark; the mark is no length; it is.
+-- The length of the packet at a position, as the code finds it: there is no room for a mark; the mark is no length; it is one, and the packet stands inside the list.
 use mathlib.Core.Path.{_≡_, sym, ap, _∙_}
 use mathlib.Core.Bool.{Bool, true, false, _&&_, and-false}
 use mathlib.Core.List.{List}
@@ -9,7 +9,7 @@ use lib.ListN.{length, drop, length-drop}
 use borrow.Author.Tests.{lt-leb}
 use Rattle.link.specs.Store.{markAt, isLength}
 use Rattle.link.proofs.Store.{markFrom, isLengthFrom, mark-from}
-use Rattle.marks.proofs.Walk.{within}
+use Rattle.marks.proofs.Walk.{within, sized}
 use Rattle.list.specs.Reading.{lengthAt}
 
 module _ (list : List ℕ) (position : ℕ) where
@@ -28,10 +28,14 @@ module _ (list : List ℕ) (position : ℕ) where
         (ap (λ (t : Bool). leb 1 n && leb n 9000 && t)
         (sym (within 0 n long (simp length-drop (omega arith))) ∙ ap (leb n) same-room ∙ within position n (length list) room))
 
-    pub no-length : isLengthFrom 9000 n list position ≡ false → 0 ≡ lengthAt list position
-    unfolding lengthAt
-    no-length h = rw (judged, h)
+    module _ (t : Bool) (test : t ≡ isLengthFrom 9000 n list position) where
+      pub no-length : t ≡ false → 0 ≡ lengthAt list position
+      unfolding lengthAt
+      no-length h = rw (judged, ← test, h)
 
-    pub is-length : isLengthFrom 9000 n list position ≡ true → n ≡ lengthAt list position
-    unfolding lengthAt
-    is-length h = rw (judged, h) (e ∙ sym (mark-from list position))
+      pub is-length : t ≡ true → n ≡ lengthAt list position
+      unfolding lengthAt
+      is-length h = rw (judged, ← test, h) (e ∙ sym (mark-from list position))
+
+      pub inside : t ≡ true → position + 2 + n ≤ length list
+      inside h = sized list position n 9000 (sym test ∙ h) .room

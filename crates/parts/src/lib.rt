@@ -42,7 +42,7 @@ pub extern "C" fn part_write_parity(payload: &mut [u8])
     if payload.len() != 2040 {
         return;
     }
-    reed_solomon::payload::write_parity(payload);
+    reed_solomon::write_parity(payload);
 }
 
 fn bit_of(flag: bool) -> u8
@@ -55,7 +55,7 @@ fn bit_of(flag: bool) -> u8
 pub extern "C" fn part_are_codewords(payload: &[u8]) -> u8
     ensures { λ r. ⌜ r ≡ bit (areCodewords (now (payload .entry))) ⌝ }
 {
-    bit_of(reed_solomon::payload::are_codewords(payload))
+    bit_of(reed_solomon::are_codewords(payload))
 }
 
 // DATA, frame 0, and nothing else to tell.

@@ -1,5 +1,6 @@
 // Blocks of samples: each begins with its number in two bytes, and every further byte follows from the number and its place.
 ghost use mathlib.Core.Path.{_≡_};
+ghost use mathlib.Core.Bool.{true};
 ghost use Prim.Native.Nat.{_≤_};
 ghost use lib.ListN.{length};
 ghost use Rattle.basics.specs.Lists.{entries};
@@ -34,6 +35,23 @@ pub fn write(number: u16, block: &mut [u8])
         block[place] = sample(number, place);
         place = place + 1;
     }
+}
+
+// Whether bytes are the block of a number; never where one of them differs.
+pub fn is_block(number: u16, bytes: &[u8]) -> bool
+    ensures { λ r. ⌜ (r ≡ true → now (bytes .entry) ≡ entries (sampleOf number) 0 (lengthOf number)) ⌝ }
+{
+    if bytes.len() != length_of(number) {
+        return false;
+    }
+    let mut place: usize = 0;
+    while place < bytes.len() {
+        if bytes[place] != sample(number, place) {
+            return false;
+        }
+        place = place + 1;
+    }
+    true
 }
 
 // The number of a block that came out.

@@ -1,3 +1,6 @@
+use native.Mathlib.Omega.{arith}
+use native.Mathlib.Nat.{mod-lt}
+use Rattle.scenario.specs.Beam.{waveAt}
 use borrow.Author.Needs.{needs}
 use Rattle.scenario.proofs.beam.wave.Statement.{statement}
 use Rattle.scenario.proofs.beam.wave.Tie as tie
@@ -10,15 +13,27 @@ rem-place c = search needs
 
 -- src/beam.rt:22:16
 sub-rest : tie.Need-sub-rest
-sub-rest c = ?
+unfolding waveAt
+sub-rest c =
+    let at-args = c .args in
+    let at-pre = c .pre in
+    let small = mod-lt (at-args .frame) at-pre in omega arith
 
 -- src/beam.rt:16:1
 returns : tie.Need-returns
-returns c = ?
+unfolding waveAt
+returns c =
+    let at-args = c .before .args in
+    let at-pre = c .before .pre in
+    let small = mod-lt (at-args .frame) at-pre in (omega arith, omega arith)
 
 -- src/beam.rt:16:1
 returns-2 : tie.Need-returns-2
-returns-2 c = ?
+unfolding waveAt
+returns-2 c =
+    let at-args = c .before .args in
+    let at-pre = c .before .pre in
+    let small = mod-lt (at-args .frame) at-pre in (omega arith, omega arith)
 
 pub wave-spec : {M : Type 1} → statement M
 wave-spec = tie.close (tie.spec rem-place sub-rest returns returns-2)

@@ -1,3 +1,5 @@
+use borrow.Author.Tests.{le-leb, lt-leb}
+use Rattle.scenario.specs.Blocks.{numberIn}
 use borrow.Author.Needs.{needs}
 use Rattle.scenario.proofs.blocks.number_of.Statement.{statement}
 use Rattle.scenario.proofs.blocks.number_of.Tie as tie
@@ -7,7 +9,10 @@ use Rattle.vectors.proofs.numbers.of_two.Reads as of-two-reads
 
 -- src/blocks.rt:44:9
 returns : tie.Need-returns
-returns c = ?
+unfolding numberIn
+returns c =
+    let at-if1 = c .if1 in
+    simp (lt-leb _ _ (at-if1 .taken))
 
 -- src/blocks.rt:46:30
 shared-slice-read-of-two : tie.Need-shared-slice-read-of-two
@@ -27,7 +32,11 @@ cast-result c = search needs
 
 -- src/blocks.rt:40:1
 returns-2 : tie.Need-returns-2
-returns-2 c = ?
+unfolding numberIn
+returns-2 c =
+    let at-if1 = c .before .before .before .if1 in
+    let at-of-two = c .of-two in
+    simp (le-leb _ _ (at-if1 .left)) ((at-of-two .ensures .0))
 
 pub number-of-spec : {M : Type 1} → statement M
 number-of-spec =

@@ -1,3 +1,5 @@
+use borrow.Author.Tests.{eq-eqb, ne-eqb}
+use Rattle.scenario.specs.Blocks.{sampleOf}
 use borrow.Author.Needs.{needs}
 use Rattle.scenario.proofs.blocks.sample.Statement.{statement}
 use Rattle.scenario.proofs.blocks.sample.Tie as tie
@@ -10,7 +12,10 @@ cast-result c = search needs
 
 -- src/blocks.rt:20:9
 returns : tie.Need-returns
-returns c = ?
+unfolding sampleOf
+returns c =
+    let at-if1 = c .if1 in
+    simp (eq-eqb _ _ (at-if1 .taken))
 
 -- src/blocks.rt:23:16
 cast-result-2 : tie.Need-cast-result-2
@@ -18,7 +23,11 @@ cast-result-2 c = search needs
 
 -- src/blocks.rt:23:9
 returns-2 : tie.Need-returns-2
-returns-2 c = ?
+unfolding sampleOf
+returns-2 c =
+    let at-if1 = c .before .if1 in
+    let at-if2 = c .if2 in
+    simp (ne-eqb _ _ (at-if1 .left), eq-eqb _ _ (at-if2 .taken))
 
 -- src/blocks.rt:25:7
 mul-result : tie.Need-mul-result
@@ -38,7 +47,11 @@ cast-result-3 c = search needs
 
 -- src/blocks.rt:16:1
 returns-3 : tie.Need-returns-3
-returns-3 c = ?
+unfolding sampleOf
+returns-3 c =
+    let at-if1 = c .before .if1 in
+    let at-if2 = c .if2 in
+    simp (ne-eqb _ _ (at-if1 .left), ne-eqb _ _ (at-if2 .left))
 
 pub sample-spec : {M : Type 1} → statement M
 sample-spec =

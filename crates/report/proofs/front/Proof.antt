@@ -1,0 +1,16 @@
+use borrow.Author.Needs.{needs}
+use native.Mathlib.Omega.{arith}
+use Rattle.report.proofs.front.Statement.{statement}
+use Rattle.report.proofs.front.Tie as tie
+
+returns : tie.Need-returns
+returns c = search needs
+
+slice-aggregate-result : tie.Need-slice-aggregate-result
+slice-aggregate-result c = omega arith
+
+returns-2 : tie.Need-returns-2
+returns-2 c = search needs
+
+pub front-spec : {M : Type 1} → statement M
+front-spec = tie.close (tie.spec returns slice-aggregate-result returns-2)
