@@ -13,9 +13,11 @@ use Rattle.lent.specs.Written.{written}
 use Rattle.header.specs.declared.FrameKind.{FrameKind}
 use Rattle.header.specs.declared.FrameKind.the-variants.{Idle, Data, Type2, Type3}
 use Rattle.header.specs.declared.Header.{Header}
+use Rattle.header.specs.declared.Txfn.{Txfn}
 use Rattle.link.specs.Link as link
 use Rattle.link.specs.Packing.{receiveRead}
-use Rattle.joining.specs.Joining.{listBytes}
+use Rattle.joining.specs.Joining.{piecesRefusal, listBytes}
+use Rattle.joining.specs.declared.Joined.{Joined}
 use Rattle.packing.specs.Reading.{read}
 use Rattle.receiver.specs.declared.Expected.{Expected}
 use Rattle.receiver.specs.declared.Expected.the-variants.{None, Frame}
@@ -46,11 +48,11 @@ isData Type2 = false
 isData Type3 = false
 
 -- the pieces of a frame; only a DATA area is looked into; none: it is against the packing rules (14)
-abbrev pub piecesOf : Header → List ℕ → Option (List link.Piece)
-piecesOf header area = cond (isData (header .kind)) (read area) (some [])
+abbrev pub piecesOf : FrameKind → List ℕ → Option (List link.Piece)
+piecesOf kind area = cond (isData kind) (read area) (some [])
 
 unfoldable pub received : Header → List ℕ → Receiver → List ℕ → link.Received
-received header area receiver hold = receiveRead (standing receiver hold) (header .txfn .0) (piecesOf header area)
+received header area receiver hold = receiveRead (standing receiver hold) (header .txfn .0) (piecesOf (header .kind) area)
 
 -- the paper's number and values for each case of what comes of a frame
 abbrev pub numberOf : link.Answer → ℕ
@@ -75,23 +77,41 @@ listOf outcome = listBytes (packetsOf (outcome .answer))
 
 -- ---------------------------------------------------------------- the call
 
--- the lowest number that applies, 0 for none
-unfoldable pub applyRefusal : Header → List ℕ → Receiver → List ℕ → List ℕ → ℕ
-applyRefusal header area receiver hold list =
-    cond (eqb (length area) 1908 && eqb (length hold) 9000 && leb 10907 (length list))
-    (cond (leb (receiver .held) 8999) (numberOf (received header area receiver hold .answer)) 3) 2
+-- 2 and 3: the sizes of what is lent (bytes of an area or of a frame, the hold, the list), and how much is held; 0 for neither
+unfoldable pub buffersRefusal : ℕ → List ℕ → ℕ → List ℕ → List ℕ → ℕ
+buffersRefusal size bytes held hold list =
+    cond (eqb (length bytes) size && eqb (length hold) 9000 && leb 10907 (length list)) (cond (leb held 8999) 0 3) 2
 
 module _ (header : Header) (area : List ℕ) (receiver : Receiver) (hold list : List ℕ) where
-  abbrev number : ℕ
-  number = applyRefusal header area receiver hold list
-
   abbrev outcome : link.Received
   outcome = received header area receiver hold
+
+  -- the lowest number that applies, 0 for none: 2 and 3, then 14 and 15
+  unfoldable pub applyRefusal : ℕ
+  applyRefusal =
+      by (buffersRefusal 1908 area (receiver .held) hold list) (numberOf (outcome .answer)) (buffersRefusal 1908 area (receiver .held) hold list)
 
   -- The whole outcome of `apply`: the answer, and the bytes of the hold and of the list. The part now held is the front of the hold; completing a packet, dropping, skipping
   -- and other types so leave the hold's bytes. The list is written from byte 0 on. All other bytes keep their values.
   pub record ApplyOutcome (r : ApplyAnswer) (hold′ list′ : List ℕ) : Type 0 where
-    pub answer : r ≡ by number
-        (Applied (missedOf (outcome .answer)) (length (packetsOf (outcome .answer))) (length (listOf outcome)) (receiverAfter header outcome)) (Refused number)
-    pub held : hold′ ≡ by number (written hold 0 (outcome .state .held)) hold
-    pub listed : list′ ≡ by number (written list 0 (listOf outcome)) list
+    pub answer : r ≡ by applyRefusal
+        (Applied (missedOf (outcome .answer)) (length (packetsOf (outcome .answer))) (length (listOf outcome)) (receiverAfter header outcome))
+        (Refused applyRefusal)
+    pub held : hold′ ≡ by applyRefusal (written hold 0 (outcome .state .held)) hold
+    pub listed : list′ ≡ by applyRefusal (written list 0 (listOf outcome)) list
+
+-- the paper's number for each case of the answer (01, last section): `apply-numbers` in proofs/Applying.antt
+abbrev pub applyNumber : ApplyAnswer → ℕ
+applyNumber (Applied missed packets listed receiver) = 0
+applyNumber (Refused number) = number
+
+-- ---------------------------------------------------------------- private calls
+
+-- 14 and 15 for a frame of this kind, where this part is held
+abbrev pub areaRefusal : FrameKind → List ℕ → List ℕ → ℕ
+areaRefusal kind area held = piecesRefusal held (piecesOf kind area)
+
+-- what is answered where nothing is refused
+abbrev pub appliedAnswer : ℕ → Txfn → Joined → ApplyAnswer
+appliedAnswer missed txfn joined =
+    Applied missed (joined .packets) (joined .listed) (record { expected = Frame (record { 0 = nextTxfn (txfn .0) }); held = joined .held })

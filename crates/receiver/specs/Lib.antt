@@ -1,2 +1,2 @@
-pub mod Receiving
 pub mod Applying
+pub mod Receiving

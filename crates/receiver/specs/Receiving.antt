@@ -1,27 +1,26 @@
 -- Receiving a frame (01, "Receiving"), for all inputs: it is opened, then applied. A refusal's number is 0 where nothing is refused (01, "Refusal numbers").
 use mathlib.Core.Path.{_≡_}
-use mathlib.Core.Bool.{cond, _&&_}
+use mathlib.Core.Bool.{cond}
 use mathlib.Core.List.{List}
 use Prim.Native.Nat.{ℕ}
-use lib.Dec.{eqb, leb}
 use lib.ListN.{length}
 use Rattle.basics.specs.Lists.{zeros}
 use Rattle.lent.specs.Outcome.{by}
 use Rattle.lent.specs.Written.{written}
 use Rattle.scrambler.specs.Scrambler.{tapsAllowed}
+use Rattle.header.specs.declared.Header.{Header}
 use Rattle.frame.specs.Opening.{openRefusal, openedHeader, openedArea}
 use Rattle.link.specs.Link as link
-use Rattle.receiver.specs.Applying.{received, numberOf, missedOf, packetsOf, receiverAfter, listOf}
+use Rattle.receiver.specs.Applying.{received, numberOf, missedOf, packetsOf, receiverAfter, listOf, buffersRefusal}
 use Rattle.receiver.specs.declared.Receiver.{Receiver}
+use Rattle.receiver.specs.declared.ApplyAnswer.{ApplyAnswer}
+use Rattle.receiver.specs.declared.ApplyAnswer.the-variants as apply
 use Rattle.receiver.specs.declared.ReceiveAnswer.{ReceiveAnswer}
 use Rattle.receiver.specs.declared.ReceiveAnswer.the-variants.{Received, Refused}
 
 -- 1, 2 and 3: what is wrong with the arguments, whatever the frame holds
 unfoldable pub argumentRefusal : ℕ → List ℕ → ℕ → List ℕ → List ℕ → ℕ
-argumentRefusal taps frame held hold list =
-    cond (tapsAllowed taps)
-    (cond (eqb (length frame) 2081 && eqb (length hold) 9000 && leb 10907 (length list))
-    (cond (leb held 8999) 0 3) 2) 1
+argumentRefusal taps frame held hold list = cond (tapsAllowed taps) (buffersRefusal 2081 frame held hold list) 1
 
 -- 7 to 13; the area is opened into 1,908 bytes of the call's own
 abbrev pub frameRefusal : ℕ → List ℕ → ℕ
@@ -47,3 +46,13 @@ module _ (taps : ℕ) (frame : List ℕ) (receiver : Receiver) (hold list : List
         (Refused receiveRefusal)
     pub held : hold′ ≡ by receiveRefusal (written hold 0 (outcome .state .held)) hold
     pub listed : list′ ≡ by receiveRefusal (written list 0 (listOf outcome)) list
+
+-- the paper's number for each case of the answer (01, last section): `receive-numbers` in proofs/Receiving.antt
+abbrev pub receiveNumber : ReceiveAnswer → ℕ
+receiveNumber (Received header missed packets listed receiver) = 0
+receiveNumber (Refused number) = number
+
+-- a private call: an answer of `apply`, with the frame's header
+abbrev pub withHeader : Header → ApplyAnswer → ReceiveAnswer
+withHeader header (apply.Applied missed packets listed receiver) = Received header missed packets listed receiver
+withHeader header (apply.Refused number) = Refused number

@@ -5,9 +5,11 @@ use header::Header;
 use header::Txfn;
 use joining::Joined;
 ghost use mathlib.Core.Path.{_≡_};
+ghost use mathlib.Core.Bool.{cond};
+ghost use lib.Dec.{eqb};
 ghost use Rattle.link.specs.Link.{missed};
-ghost use Rattle.receiver.specs.Applying.{freshReceiver, expectedNumber, isData, ApplyOutcome};
-ghost use Rattle.receiver.specs.Receiving.{argumentRefusal, ReceiveOutcome};
+ghost use Rattle.receiver.specs.Applying.{freshReceiver, expectedNumber, isData, areaRefusal, buffersRefusal, appliedAnswer, ApplyOutcome};
+ghost use Rattle.receiver.specs.Receiving.{argumentRefusal, withHeader, ReceiveOutcome};
 
 // The number that the next frame should have; none before the first frame.
 pub enum Expected {
@@ -54,7 +56,9 @@ fn missed_before(expected: Expected, txfn: Txfn) -> u16
 }
 
 // How many bytes are still held after frames were missed.
-fn held_after(missed: u16, held: usize) -> usize {
+fn held_after(missed: u16, held: usize) -> usize
+    ensures { λ r. ⌜ r ≡ cond (eqb missed 0) held 0 ⌝ }
+{
     if missed == 0 { held } else { 0 }
 }
 
@@ -69,9 +73,11 @@ fn is_data(kind: FrameKind) -> bool
     }
 }
 
-// 2 and 3 of `apply`; 0 for neither.
-fn buffers_refusal(area: &[u8], held: usize, hold: &[u8], list: &[u8]) -> u8 {
-    if area.len() != 1908 {
+// 2 and 3, for bytes that are to be of this size; 0 for neither.
+fn buffers_refusal(size: usize, bytes: &[u8], held: usize, hold: &[u8], list: &[u8]) -> u8
+    ensures { λ r. ⌜ r ≡ buffersRefusal size (now (bytes .entry)) held (now (hold .entry)) (now (list .entry)) ⌝ }
+{
+    if bytes.len() != size {
         return 2;
     }
     if hold.len() != 9000 {
@@ -86,16 +92,29 @@ fn buffers_refusal(area: &[u8], held: usize, hold: &[u8], list: &[u8]) -> u8 {
     0
 }
 
-// What a frame of any kind does: only a DATA area is looked into.
-fn join(kind: FrameKind, area: &[u8], held: usize, hold: &mut [u8], list: &mut [u8]) -> Joined {
+// 14 and 15; 0 for neither. Only a DATA area is looked into.
+fn area_refusal(kind: FrameKind, area: &[u8], held: &[u8]) -> u8
+    ensures { λ r. ⌜ r ≡ areaRefusal kind (now (area .entry)) (now (held .entry)) ⌝ }
+{
     if is_data(kind) {
-        joining::join(area, held, hold, list)
-    } else {
-        Joined {
-            held,
-            packets: 0,
-            listed: 0,
-        }
+        return joining::records_refusal(area, held);
+    }
+    0
+}
+
+// The answer to a frame that is not refused: the number after its own is expected.
+fn applied(missed: u16, txfn: Txfn, joined: Joined) -> ApplyAnswer
+    ensures { λ r. ⌜ r ≡ appliedAnswer missed txfn joined ⌝ }
+{
+    let next = txfn.next();
+    ApplyAnswer::Applied {
+        missed,
+        packets: joined.packets,
+        listed: joined.listed,
+        receiver: Receiver {
+            expected: Expected::Frame(next),
+            held: joined.held,
+        },
     }
 }
 
@@ -109,7 +128,7 @@ pub fn apply(
 ) -> ApplyAnswer
     ensures { λ r. ⌜ ApplyOutcome header (now (area .entry)) receiver (now (hold .entry)) (now (list .entry)) r (now (hold .exit)) (now (list .exit)) ⌝ }
 {
-    let buffers = buffers_refusal(area, receiver.held, hold, list);
+    let buffers = buffers_refusal(1908, area, receiver.held, hold, list);
     if buffers != 0 {
         return ApplyAnswer::Refused(buffers);
     }
@@ -118,24 +137,20 @@ pub fn apply(
     let expected = receiver.expected;
     let missed = missed_before(expected, txfn);
     let held = held_after(missed, receiver.held);
+    let number = area_refusal(kind, area, &hold[..held]);
+    if number != 0 {
+        return ApplyAnswer::Refused(number);
+    }
     if is_data(kind) {
-        let number = joining::records_refusal(area, &hold[..held]);
-        if number != 0 {
-            return ApplyAnswer::Refused(number);
-        }
+        let joined = joining::join(area, held, hold, list);
+        return applied(missed, txfn, joined);
     }
-    let joined = join(kind, area, held, hold, list);
-    let left = joined.held;
-    let next = txfn.next();
-    ApplyAnswer::Applied {
-        missed,
-        packets: joined.packets,
-        listed: joined.listed,
-        receiver: Receiver {
-            expected: Expected::Frame(next),
-            held: left,
-        },
-    }
+    let unjoined = Joined {
+        held,
+        packets: 0,
+        listed: 0,
+    };
+    applied(missed, txfn, unjoined)
 }
 
 pub enum ReceiveAnswer {
@@ -149,36 +164,20 @@ pub enum ReceiveAnswer {
     Refused(u8),
 }
 
+// 1, 2 and 3, whatever the frame holds; 0 for none.
 fn argument_refusal(taps: u32, frame: &[u8], held: usize, hold: &[u8], list: &[u8]) -> u8
     ensures { λ r. ⌜ r ≡ argumentRefusal taps (now (frame .entry)) held (now (hold .entry)) (now (list .entry)) ⌝ }
 {
     if !scrambler::are_taps(taps) {
         return 1;
     }
-    if frame.len() != 2081 {
-        return 2;
-    }
-    if hold.len() != 9000 {
-        return 2;
-    }
-    if list.len() < 10907 {
-        return 2;
-    }
-    if 8999 < held {
-        return 3;
-    }
-    0
+    buffers_refusal(2081, frame, held, hold, list)
 }
 
-// Applies the frame that was opened, and answers with its header.
-fn apply_opened(
-    header: Header,
-    area: &[u8],
-    receiver: Receiver,
-    hold: &mut [u8],
-    list: &mut [u8],
-) -> ReceiveAnswer {
-    match apply(header, area, receiver, hold, list) {
+fn with_header(header: Header, answer: ApplyAnswer) -> ReceiveAnswer
+    ensures { λ r. ⌜ r ≡ withHeader header answer ⌝ }
+{
+    match answer {
         ApplyAnswer::Applied {
             missed,
             packets,
@@ -213,6 +212,9 @@ pub fn receive(
     let opened = frame::open(taps, frame, &mut area);
     match opened {
         OpenAnswer::Refused(number) => ReceiveAnswer::Refused(number),
-        OpenAnswer::Opened(header) => apply_opened(header, &area, receiver, hold, list),
+        OpenAnswer::Opened(header) => {
+            let answer = apply(header, &area, receiver, hold, list);
+            with_header(header, answer)
+        }
     }
 }

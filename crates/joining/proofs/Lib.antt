@@ -1,0 +1,4 @@
+pub mod Refusals
+pub mod Growing
+pub mod Pieces
+pub mod Reached

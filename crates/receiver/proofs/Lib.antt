@@ -1,0 +1,3 @@
+pub mod Applying
+pub mod Opened
+pub mod Receiving
