@@ -1,4 +1,6 @@
 // The far end: what arrives is received, and the packets that come out go to the recorder and the tuner.
+ghost use Prim.Native.Nat.{_≤_};
+ghost use lib.ListN.{length};
 use crate::session::Session;
 use crate::session::TAPS;
 use list::EntryAnswer;
@@ -113,7 +115,9 @@ pub fn through_beam(
     hold: &mut [u8],
     list: &mut [u8],
     out: &mut [u8],
-) -> Session {
+) -> Session
+    requires { ⌜ 2081 ≤ length (now frame) ⌝ }
+{
     let shake = beam::shake_at(count);
     line::number_before(out, 12, shake);
     match beam::fate_of(shake) {
@@ -121,7 +125,7 @@ pub fn through_beam(
         Fate::Damaged => {
             beam::damage(count, frame);
             let length = beam::arriving(count);
-            arrive(session, &frame[..length], hold, list, out)
+            arrive(session, report::front(frame, length), hold, list, out)
         }
         Fate::Lost => {
             line::text(out, 38, b"lost");

@@ -8,5 +8,5 @@ pub fn front(bytes: &[u8], count: usize) -> &[u8] {
     if bytes.len() < count {
         return bytes;
     }
-    &bytes[..count]
+    &bytes[0..count]
 }

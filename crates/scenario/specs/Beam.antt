@@ -20,3 +20,7 @@ fateAt shake = cond (leb 33 shake) (cond (leb 37 shake) Lost Damaged) Arrives
 -- where a damaged frame is hit: in its preamble, its header or its payload
 unfoldable pub hitAt : ℕ → ℕ
 hitAt frame = cond (eqb (frame % 4) 1) 4 (cond (eqb (frame % 4) 2) 20 1040)
+
+-- how many bytes of a damaged frame arrive: every fourth frame is cut short
+abbrev pub arrivingAt : ℕ → ℕ
+arrivingAt frame = cond (eqb (frame % 4) 0) 2000 2081

@@ -4,7 +4,7 @@ ghost use mathlib.Core.List.{[], _∷_};
 ghost use Prim.Native.Nat.{_-_, _≤_, _<_};
 ghost use lib.ListN.{length, getD};
 ghost use Rattle.lent.specs.Written.{written};
-ghost use Rattle.scenario.specs.Beam.{waveAt, shakeAt, fateAt, hitAt};
+ghost use Rattle.scenario.specs.Beam.{waveAt, shakeAt, fateAt, hitAt, arrivingAt};
 
 pub enum Fate {
     Arrives,
@@ -57,7 +57,7 @@ fn hit(frame: u16) -> usize
 
 // How many bytes of a damaged frame arrive: every fourth one is cut short.
 pub fn arriving(frame: u16) -> usize
-    ensures { λ r. ⌜ r ≤ 2081 ⌝ }
+    ensures { λ r. ⌜ r ≡ arrivingAt frame ⌝ }
 {
     if frame % 4 == 0 { 2000 } else { 2081 }
 }

@@ -3,20 +3,13 @@ use Rattle.header.specs.Header.{bit}
 use borrow.Author.Needs.{needs}
 use Rattle.parts.proofs.part_are_codewords.Statement.{statement}
 use Rattle.parts.proofs.part_are_codewords.Tie as tie
-use Rattle.parts.proofs.part_are_codewords.Reads as reads
-use Rattle.parts.proofs.part_are_codewords.Lts as lts
-use Rattle.parts.proofs.bit_of.Reads as bit-of-reads
-use Rattle.reed_solomon.proofs.are_codewords.Reads as are-codewords-reads
 
--- src/lib.rt:58:12
 are-codewords-requires : tie.Need-are-codewords-requires
 are-codewords-requires c κs = search needs
 
--- src/lib.rt:58:5
 bit-of-requires : tie.Need-bit-of-requires
 bit-of-requires c κs = search needs
 
--- src/lib.rt:54:1
 returns : tie.Need-returns
 returns c =
     let at-bit-of = c .bit-of in

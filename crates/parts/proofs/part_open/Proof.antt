@@ -4,24 +4,16 @@ use Rattle.frame.proofs.Theorems.{open-numbers}
 use borrow.Author.Needs.{needs}
 use Rattle.parts.proofs.part_open.Statement.{statement}
 use Rattle.parts.proofs.part_open.Tie as tie
-use Rattle.parts.proofs.part_open.Reads as reads
-use Rattle.parts.proofs.part_open.Lts as lts
-use Rattle.frame.proofs.open.Reads as open-reads
-use Rattle.parts.proofs.number_of.Reads as number-of-reads
 
--- src/lib.rt:108:15
 open-requires : tie.Need-open-requires
 open-requires c κs = search needs
 
--- src/lib.rt:108:5
 number-of-requires : tie.Need-number-of-requires
 number-of-requires c κs = search needs
 
--- src/lib.rt:103:1
 same-length : tie.Need-same-length
 same-length c = search needs
 
--- src/lib.rt:103:1
 returns : tie.Need-returns
 returns c =
     let at-open = c .before .before .before .«open» in

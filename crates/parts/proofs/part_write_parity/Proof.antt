@@ -2,25 +2,18 @@ use borrow.Author.Tests.{eq-eqb, ne-eqb}
 use borrow.Author.Needs.{needs}
 use Rattle.parts.proofs.part_write_parity.Statement.{statement}
 use Rattle.parts.proofs.part_write_parity.Tie as tie
-use Rattle.parts.proofs.part_write_parity.Reads as reads
-use Rattle.parts.proofs.part_write_parity.Lts as lts
-use Rattle.reed_solomon.proofs.write_parity.Reads as write-parity-reads
 
--- src/lib.rt:43:9
 returns : tie.Need-returns
 returns c =
     let at-if1 = c .if1 in
     simp (ne-eqb _ _ (at-if1 .taken))
 
--- src/lib.rt:45:5
 write-parity-requires : tie.Need-write-parity-requires
 write-parity-requires c κs = search needs
 
--- src/lib.rt:38:1
 same-length : tie.Need-same-length
 same-length c = search needs
 
--- src/lib.rt:38:1
 returns-2 : tie.Need-returns-2
 returns-2 c =
     let at-if1 = c .before .before .before .before .if1 in

@@ -2,17 +2,13 @@ use borrow.Author.Tests.{le-leb, lt-leb}
 use Rattle.scenario.specs.Beam.{fateAt}
 use Rattle.scenario.proofs.beam.fate_of.Statement.{statement}
 use Rattle.scenario.proofs.beam.fate_of.Tie as tie
-use Rattle.scenario.proofs.beam.fate_of.Reads as reads
-use Rattle.scenario.proofs.beam.fate_of.Lts as lts
 
--- src/beam.rt:38:9
 returns : tie.Need-returns
 unfolding fateAt
 returns c =
     let at-if1 = c .if1 in
     simp (lt-leb _ _ (at-if1 .taken))
 
--- src/beam.rt:41:9
 returns-2 : tie.Need-returns-2
 unfolding fateAt
 returns-2 c =
@@ -20,7 +16,6 @@ returns-2 c =
     let at-if2 = c .if2 in
     simp (le-leb _ _ (at-if1 .left), lt-leb _ _ (at-if2 .taken))
 
--- src/beam.rt:34:1
 returns-3 : tie.Need-returns-3
 unfolding fateAt
 returns-3 c =

@@ -3,34 +3,25 @@ use Rattle.scenario.specs.Blocks.{numberIn}
 use borrow.Author.Needs.{needs}
 use Rattle.scenario.proofs.blocks.number_of.Statement.{statement}
 use Rattle.scenario.proofs.blocks.number_of.Tie as tie
-use Rattle.scenario.proofs.blocks.number_of.Reads as reads
-use Rattle.scenario.proofs.blocks.number_of.Lts as lts
-use Rattle.vectors.proofs.numbers.of_two.Reads as of-two-reads
 
--- src/blocks.rt:44:9
 returns : tie.Need-returns
 unfolding numberIn
 returns c =
     let at-if1 = c .if1 in
     simp (lt-leb _ _ (at-if1 .taken))
 
--- src/blocks.rt:46:30
 shared-slice-read-of-two : tie.Need-shared-slice-read-of-two
 shared-slice-read-of-two c = search needs
 
--- src/blocks.rt:46:40
 shared-slice-read-of-two-2 : tie.Need-shared-slice-read-of-two-2
 shared-slice-read-of-two-2 c = search needs
 
--- src/blocks.rt:46:5
 of-two-requires : tie.Need-of-two-requires
 of-two-requires c κs = search needs
 
--- src/blocks.rt:46:5
 cast-result : tie.Need-cast-result
 cast-result c = search needs
 
--- src/blocks.rt:40:1
 returns-2 : tie.Need-returns-2
 unfolding numberIn
 returns-2 c =

@@ -3,25 +3,19 @@ use Rattle.scenario.specs.Blocks.{sampleOf}
 use borrow.Author.Needs.{needs}
 use Rattle.scenario.proofs.blocks.sample.Statement.{statement}
 use Rattle.scenario.proofs.blocks.sample.Tie as tie
-use Rattle.scenario.proofs.blocks.sample.Reads as reads
-use Rattle.scenario.proofs.blocks.sample.Lts as lts
 
--- src/blocks.rt:20:16
 cast-result : tie.Need-cast-result
 cast-result c = search needs
 
--- src/blocks.rt:20:9
 returns : tie.Need-returns
 unfolding sampleOf
 returns c =
     let at-if1 = c .if1 in
     simp (eq-eqb _ _ (at-if1 .taken))
 
--- src/blocks.rt:23:16
 cast-result-2 : tie.Need-cast-result-2
 cast-result-2 c = search needs
 
--- src/blocks.rt:23:9
 returns-2 : tie.Need-returns-2
 unfolding sampleOf
 returns-2 c =
@@ -29,23 +23,18 @@ returns-2 c =
     let at-if2 = c .if2 in
     simp (ne-eqb _ _ (at-if1 .left), eq-eqb _ _ (at-if2 .taken))
 
--- src/blocks.rt:25:7
 mul-result : tie.Need-mul-result
 mul-result c = search needs
 
--- src/blocks.rt:25:30
 mul-result-2 : tie.Need-mul-result-2
 mul-result-2 c = search needs
 
--- src/blocks.rt:25:7
 add-result : tie.Need-add-result
 add-result c = search needs
 
--- src/blocks.rt:25:5
 cast-result-3 : tie.Need-cast-result-3
 cast-result-3 c = search needs
 
--- src/blocks.rt:16:1
 returns-3 : tie.Need-returns-3
 unfolding sampleOf
 returns-3 c =

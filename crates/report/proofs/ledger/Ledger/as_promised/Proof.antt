@@ -1,6 +1,5 @@
 use borrow.Author.Needs.{needs}
-use native.Mathlib.Omega.{arith}
-use Prim.Native.Nat.{_≤_, _-_}
+use Prim.Native.Nat.{_-_}
 use Rattle.report.proofs.ledger.Ledger.as_promised.Statement.{statement}
 use Rattle.report.proofs.ledger.Ledger.as_promised.Tie as tie
 

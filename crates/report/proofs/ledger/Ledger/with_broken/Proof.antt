@@ -1,6 +1,5 @@
 use borrow.Author.Needs.{needs}
-use native.Mathlib.Omega.{arith}
-use Prim.Native.Nat.{_≤_, _-_}
+use Prim.Native.Nat.{_-_}
 use Rattle.report.proofs.ledger.Ledger.with_broken.Statement.{statement}
 use Rattle.report.proofs.ledger.Ledger.with_broken.Tie as tie
 

@@ -2,12 +2,12 @@
 use borrow.Author.Needs.{needs}
 use mathlib.Core.Path.{_≡_, sym, ap, _∙_}
 use mathlib.Core.Bool.{cond}
-use mathlib.Core.List.{[], _∷_, _++_}
+use mathlib.Core.List.{[], _∷_}
 use Prim.Native.Nat.{ℕ, _+_, _%_, _^_}
 use native.Mathlib.Omega.{arith}
 use lib.Dec.{eqb}
-use lib.ListN.{length, length-append}
-use Rattle.scenario.specs.Views.{Records, dueAfter, gapsFrom}
+use lib.ListN.{length-append}
+use Rattle.scenario.specs.Views.{gapsFrom}
 use Rattle.scenario.proofs.Following.{due-more, gaps-more}
 use Rattle.scenario.proofs.views.Recorder.with.Statement.{statement}
 use Rattle.scenario.proofs.views.Recorder.with.Tie as tie
