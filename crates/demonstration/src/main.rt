@@ -4,6 +4,7 @@ mod sending;
 mod session;
 
 use report::line;
+use scenario::blocks;
 use session::Session;
 use vectors::text;
 
@@ -17,6 +18,16 @@ fn is_block_due(count: u16) -> bool {
     count % 3 != 2
 }
 
+// Puts a block where one is due.
+fn put_due(session: Session, count: u16, queue: &mut [u8], out: &mut [u8]) -> Session {
+    if !is_block_due(count) {
+        return session;
+    }
+    let mut block = [0u8; 9000];
+    let length = blocks::length_of(session.put);
+    sending::put_block(session, queue, &mut block[0..length], out)
+}
+
 // One frame from the sender to the readers, and its line.
 fn step(
     before: Session,
@@ -24,20 +35,15 @@ fn step(
     queue: &mut [u8],
     hold: &mut [u8],
     list: &mut [u8],
-    room: &mut [u8],
 ) -> Session {
     let mut out = [b' '; line::WIDTH];
     let mut frame = [0u8; 2081];
-    let mut session = before;
     line::number_before(&mut out, 5, count as u64);
-    if is_block_due(count) {
-        let next = sending::put_block(session, queue, room, &mut out);
-        session = next;
-    }
+    let session = put_due(before, count, queue, &mut out);
     let sent = sending::send(session, queue, &mut frame, &mut out);
     let done = receiving::through_beam(sent, count, &mut frame, hold, list, &mut out);
     let end = line::trimmed(&out);
-    text::say(&out[..end]);
+    text::say(&out[0..end]);
     text::say(b"\n");
     done
 }
@@ -91,12 +97,11 @@ fn main() {
     let mut queue = [0u8; 32768];
     let mut hold = [0u8; 9000];
     let mut list = [0u8; 10907];
-    let mut room = [0u8; 9000];
     let mut session = Session::fresh();
     print_head();
     let mut count: u16 = 0;
     while count < FRAMES {
-        let next = step(session, count, &mut queue, &mut hold, &mut list, &mut room);
+        let next = step(session, count, &mut queue, &mut hold, &mut list);
         session = next;
         count = count + 1;
     }

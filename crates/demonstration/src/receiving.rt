@@ -43,7 +43,11 @@ fn read_out(before: Session, listed: &[u8], packets: usize, out: &mut [u8]) -> S
     session
 }
 
-fn tell_views(session: Session, out: &mut [u8]) {
+// Nothing where no packet came out.
+fn tell_views(session: Session, packets: usize, out: &mut [u8]) {
+    if packets == 0 {
+        return;
+    }
     let recorder = session.recorder;
     let tuner = session.tuner;
     line::number_before(out, 86, recorder.blocks);
@@ -95,9 +99,7 @@ fn arrive(
                 packets,
                 out,
             );
-            if packets != 0 {
-                tell_views(read, out);
-            }
+            tell_views(read, packets, out);
             read
         }
         ReceiveAnswer::Refused(number) => {

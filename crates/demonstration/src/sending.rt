@@ -10,14 +10,10 @@ use scenario::blocks;
 use sender::NextAnswer;
 use sender::PutAnswer;
 
-// Puts the next block, which is made in the room that is lent.
-pub fn put_block(session: Session, queue: &mut [u8], room: &mut [u8], out: &mut [u8]) -> Session {
+// Puts the next block, which is made in bytes lent for it.
+pub fn put_block(session: Session, queue: &mut [u8], block: &mut [u8], out: &mut [u8]) -> Session {
     let number = session.put;
-    let length = blocks::length_of(number);
-    if room.len() < length {
-        return session;
-    }
-    let block = &mut room[0..length];
+    let length = block.len();
     blocks::write(number, block);
     line::number_before(out, 19, number as u64);
     let sender = session.sender;
