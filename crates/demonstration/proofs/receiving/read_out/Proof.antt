@@ -1,3 +1,4 @@
+use native.Mathlib.Omega.{arith}
 use mathlib.Core.Path.{_≡_}
 use lib.ListN.{length}
 use borrow.Author.Needs.{needs}
@@ -97,7 +98,11 @@ loop-less c = search needs
 
 -- src/receiving.rt:19:5
 loop-again : tie.Need-loop-again Inv-loop μ-loop
-loop-again c = ?
+loop-again c = 
+    let at-text = c .before .before .text in
+    let at-number = c .before .before .before .before .before .before .before .number in
+    let at-loop = c .before .before .before .before .before .before .before .before .before .before .before .before .before .before .before .before .before .before .loop in
+    omega (arith, (at-text .kept .0), (at-number .kept .0), (at-loop .inv))
 
 -- src/receiving.rt:14:1
 same-length-3 : tie.Need-same-length-3 Inv-loop μ-loop

@@ -1,3 +1,4 @@
+use native.Mathlib.Omega.{arith}
 use borrow.Author.Needs.{needs}
 use Rattle.demonstration.proofs.sending.send.Statement.{statement}
 use Rattle.demonstration.proofs.sending.send.Tie as tie
@@ -72,7 +73,10 @@ number-requires c κs = search needs
 
 -- src/sending.rt:102:1
 same-length : tie.Need-same-length
-same-length c = ?
+same-length c = 
+    let at-tell-carried = c .before .before .before .tell-carried in
+    let at-next-frame = c .before .before .before .before .before .before .before .before .before .before .before .before .before .before .next-frame in
+    omega (arith, (at-tell-carried .kept .1 .1 .1 .0), (at-next-frame .kept .1 .1 .1 .0), (at-next-frame .kept .1 .1 .1 .1 .0))
 
 -- src/sending.rt:102:1
 same-length-2 : tie.Need-same-length-2
