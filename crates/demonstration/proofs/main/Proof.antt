@@ -5,13 +5,6 @@ use Prim.Native.Nat.{_-_}
 use lib.ListN.{length}
 use Rattle.demonstration.proofs.main.Statement.{statement}
 use Rattle.demonstration.proofs.main.Tie as tie
-use Rattle.demonstration.proofs.main.Reads as reads
-use Rattle.demonstration.proofs.main.Lts as lts
-use Rattle.demonstration.proofs.print_blocks.Reads as print-blocks-reads
-use Rattle.demonstration.proofs.print_frames.Reads as print-frames-reads
-use Rattle.demonstration.proofs.print_head.Reads as print-head-reads
-use Rattle.demonstration.proofs.session.Session.fresh.Reads as fresh-reads
-use Rattle.demonstration.proofs.step.Reads as step-reads
 
 abbrev Inv-loop : tie.InvT-loop
 Inv-loop queue₀ hold₀ list₀ session₀ count₀ queue hold list session count = (length queue ≡ 32768) × (length hold ≡ 9000) × (length list ≡ 10907)
@@ -19,68 +12,54 @@ Inv-loop queue₀ hold₀ list₀ session₀ count₀ queue hold list session co
 abbrev μ-loop : tie.MeasureT-loop
 μ-loop queue₀ hold₀ list₀ session₀ count₀ queue hold list session count = 64 - count
 
--- src/main.rt:100:9
 fresh-requires : tie.Need-fresh-requires Inv-loop μ-loop
 fresh-requires c κs = search needs
 
--- src/main.rt:101:5
 print-head-requires : tie.Need-print-head-requires Inv-loop μ-loop
 print-head-requires c κs = search needs
 
--- src/main.rt:103:5
 loop-holds : tie.Need-loop-holds Inv-loop μ-loop
 loop-holds c = search needs
 
--- src/main.rt:104:41
 slice-aggregate-step : tie.Need-slice-aggregate-step Inv-loop μ-loop
-slice-aggregate-step c = 
+slice-aggregate-step c =
     let at-loop = c .before .before .loop in
-    omega (arith, (at-loop .inv .0), (at-loop .inv .1), (at-loop .inv .2))
+    omega (arith, at-loop .inv .0)
 
--- src/main.rt:104:53
 slice-aggregate-step-2 : tie.Need-slice-aggregate-step-2 Inv-loop μ-loop
-slice-aggregate-step-2 c = 
+slice-aggregate-step-2 c =
     let at-loop = c .before .before .before .loop in
-    omega (arith, (at-loop .inv .0), (at-loop .inv .1), (at-loop .inv .2))
+    omega (arith, at-loop .inv .1)
 
--- src/main.rt:104:64
 slice-aggregate-step-3 : tie.Need-slice-aggregate-step-3 Inv-loop μ-loop
-slice-aggregate-step-3 c = 
+slice-aggregate-step-3 c =
     let at-loop = c .before .before .before .before .loop in
-    omega (arith, (at-loop .inv .0), (at-loop .inv .1), (at-loop .inv .2))
+    omega (arith, at-loop .inv .2)
 
--- src/main.rt:104:13
 step-requires : tie.Need-step-requires Inv-loop μ-loop
 step-requires c κs = search needs
 
--- src/main.rt:106:17
 add-count : tie.Need-add-count Inv-loop μ-loop
-add-count c = 
-    let at-loop = c .before .before .before .before .before .before .before .before .loop in
-    omega (arith, (at-loop .inv .0), (at-loop .inv .1), (at-loop .inv .2))
+add-count c = omega arith
 
--- src/main.rt:103:5
 loop-less : tie.Need-loop-less Inv-loop μ-loop
-loop-less c = 
-    let at-loop = c .before .before .before .before .before .before .before .before .loop in
-    omega (arith, (at-loop .inv .0), (at-loop .inv .1), (at-loop .inv .2))
+loop-less c = omega arith
 
--- src/main.rt:103:5
 loop-again : tie.Need-loop-again Inv-loop μ-loop
-loop-again c = 
+loop-again c =
     let at-step = c .before .before .before .step in
-    let at-loop = c .before .before .before .before .before .before .before .before .loop in
-    (omega (arith, (at-step .kept .1 .1 .0), (at-step .kept .1 .1 .1 .0), (at-step .kept .1 .1 .1 .1 .0), (at-loop .inv .0), (at-loop .inv .1), (at-loop .inv .2)), omega (arith, (at-step .kept .1 .1 .0), (at-step .kept .1 .1 .1 .0), (at-step .kept .1 .1 .1 .1 .0), (at-loop .inv .0), (at-loop .inv .1), (at-loop .inv .2)), omega (arith, (at-step .kept .1 .1 .0), (at-step .kept .1 .1 .1 .0), (at-step .kept .1 .1 .1 .1 .0), (at-loop .inv .0), (at-loop .inv .1), (at-loop .inv .2)))
+    let at-loop = c .before .before .before .before .before .before .before .before .loop in (
+      omega (arith, at-step .kept .1 .1 .0, at-loop .inv .0),
+      omega (arith, at-step .kept .1 .1 .1 .0, at-loop .inv .1),
+      omega (arith, at-step .kept .1 .1 .1 .1 .0, at-loop .inv .2),
+    )
 
--- src/main.rt:108:5
 print-frames-requires : tie.Need-print-frames-requires Inv-loop μ-loop
 print-frames-requires c κs = search needs
 
--- src/main.rt:109:5
 print-blocks-requires : tie.Need-print-blocks-requires Inv-loop μ-loop
 print-blocks-requires c κs = search needs
 
--- src/main.rt:96:1
 returns : tie.Need-returns Inv-loop μ-loop
 returns c = search needs
 

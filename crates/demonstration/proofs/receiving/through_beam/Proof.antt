@@ -2,123 +2,85 @@ use native.Mathlib.Omega.{arith}
 use borrow.Author.Needs.{needs}
 use Rattle.demonstration.proofs.receiving.through_beam.Statement.{statement}
 use Rattle.demonstration.proofs.receiving.through_beam.Tie as tie
-use Rattle.demonstration.proofs.receiving.through_beam.Reads as reads
-use Rattle.demonstration.proofs.receiving.through_beam.Lts as lts
-use Rattle.demonstration.proofs.receiving.arrive.Reads as arrive-reads
-use Rattle.demonstration.proofs.session.Session.with_lost.Reads as with-lost-reads
-use Rattle.report.proofs.front.Reads as front-reads
-use Rattle.report.proofs.line.number_before.Reads as number-before-reads
-use Rattle.report.proofs.line.text.Reads as text-reads
-use Rattle.scenario.proofs.beam.arriving.Reads as arriving-reads
-use Rattle.scenario.proofs.beam.damage.Reads as damage-reads
-use Rattle.scenario.proofs.beam.fate_of.Reads as fate-of-reads
-use Rattle.scenario.proofs.beam.shake_at.Reads as shake-at-reads
 
--- src/receiving.rt:123:9
 shake-at-requires : tie.Need-shake-at-requires
 shake-at-requires c κs = search needs
 
--- src/receiving.rt:124:5
 number-before-requires : tie.Need-number-before-requires
 number-before-requires c κs = search needs
 
--- src/receiving.rt:125:11
 fate-of-requires : tie.Need-fate-of-requires
 fate-of-requires c κs = search needs
 
--- src/receiving.rt:126:42
 enum-told : tie.Need-enum-told
 enum-told c = search needs
 
--- src/receiving.rt:126:26
 arrive-requires : tie.Need-arrive-requires
 arrive-requires c κs = search needs
 
--- src/receiving.rt:128:33
 enum-told-2 : tie.Need-enum-told-2
 enum-told-2 c = search needs
 
--- src/receiving.rt:128:13
 damage-requires : tie.Need-damage-requires
 damage-requires c κs = search needs
 
--- src/receiving.rt:129:17
 arriving-requires : tie.Need-arriving-requires
 arriving-requires c κs = search needs
 
--- src/receiving.rt:130:29
 front-requires : tie.Need-front-requires
 front-requires c κs = search needs
 
--- src/receiving.rt:130:13
 arrive-requires-2 : tie.Need-arrive-requires-2
 arrive-requires-2 c κs = search needs
 
--- src/receiving.rt:133:24
 enum-told-3 : tie.Need-enum-told-3
 enum-told-3 c = search needs
 
--- src/receiving.rt:133:33
 slice-aggregate-text : tie.Need-slice-aggregate-text
 slice-aggregate-text c = search needs
 
--- src/receiving.rt:133:13
 text-requires : tie.Need-text-requires
 text-requires c κs = search needs
 
--- src/receiving.rt:134:13
 with-lost-requires : tie.Need-with-lost-requires
 with-lost-requires c κs = search needs
 
--- src/receiving.rt:113:1
 same-length : tie.Need-same-length
 same-length c = search needs
 
--- src/receiving.rt:113:1
 same-length-2 : tie.Need-same-length-2
 same-length-2 c = search needs
 
--- src/receiving.rt:113:1
 same-length-3 : tie.Need-same-length-3
 same-length-3 c = search needs
 
--- src/receiving.rt:113:1
 same-length-4 : tie.Need-same-length-4
 same-length-4 c = search needs
 
--- src/receiving.rt:113:1
 returns : tie.Need-returns
 returns c = search needs
 
--- src/receiving.rt:113:1
 same-length-5 : tie.Need-same-length-5
 same-length-5 c = search needs
 
--- src/receiving.rt:113:1
 same-length-6 : tie.Need-same-length-6
 same-length-6 c = search needs
 
--- src/receiving.rt:113:1
 same-length-7 : tie.Need-same-length-7
 same-length-7 c = search needs
 
--- src/receiving.rt:113:1
 same-length-8 : tie.Need-same-length-8
-same-length-8 c = 
+same-length-8 c =
     let at-arrive2 = c .before .before .before .before .before .before .arrive2 in
-    let at-damage = c .before .before .before .before .before .before .before .before .before .before .before .before .before .before .before .damage in
     let at-number-before = c .before .before .before .before .before .before .before .before .before .before .before .before .before .before .before .before .before .before .before .before .before .before .number-before in
-    omega (arith, (at-arrive2 .kept .1 .1 .0), (at-arrive2 .kept .1 .1 .1 .0), (at-arrive2 .kept .1 .1 .1 .1 .0), (at-damage .kept .1 .0), (at-number-before .kept .0))
+    omega (arith, at-number-before .kept .0, at-arrive2 .kept .1 .1 .1 .1 .0)
 
--- src/receiving.rt:113:1
 returns-2 : tie.Need-returns-2
 returns-2 c = search needs
 
--- src/receiving.rt:113:1
 same-length-9 : tie.Need-same-length-9
 same-length-9 c = search needs
 
--- src/receiving.rt:113:1
 returns-3 : tie.Need-returns-3
 returns-3 c = search needs
 
