@@ -7,18 +7,12 @@ use header::Header;
 use header::Rxfn;
 use header::Txfn;
 ghost use mathlib.Core.Path.{_≡_};
-ghost use mathlib.Core.Bool.{cond, _&&_};
-ghost use lib.Dec.{eqb, leb};
-ghost use lib.ListN.{length, take};
-ghost use Rattle.lent.specs.Outcome.{by};
-ghost use Rattle.lent.specs.Written.{written};
 ghost use Rattle.crc.specs.Crc.{crc-32};
 ghost use Rattle.scrambler.specs.Scrambler.{scrambled};
-ghost use Rattle.reed_solomon.specs.Payload.{codedPayload, areCodewords};
-ghost use Rattle.frame.specs.Frame.{frameBytes};
-ghost use Rattle.frame.specs.Opening.{openRefusal, openedArea, openNumber};
+ghost use Rattle.reed_solomon.specs.Payload.{areCodewords};
+ghost use Rattle.frame.specs.Opening.{openRefusal, openNumber};
 ghost use Rattle.header.specs.Header.{bit};
-ghost use Rattle.parts.specs.Parts.{plainHeader};
+ghost use Rattle.parts.specs.Parts.{plainHeader, parityOut, builtOut, openedOut};
 
 #[no_mangle]
 pub extern "C" fn part_crc_32(bytes: &[u8]) -> u32
@@ -37,7 +31,7 @@ pub extern "C" fn part_scramble(taps: u32, bytes: &mut [u8])
 // Nothing where the payload does not have 2,040 bytes.
 #[no_mangle]
 pub extern "C" fn part_write_parity(payload: &mut [u8])
-    ensures { λ _. ⌜ now (payload .exit) ≡ cond (eqb (length (now (payload .entry))) 2040) (codedPayload (take 1912 (now (payload .entry)))) (now (payload .entry)) ⌝ }
+    ensures { λ _. ⌜ now (payload .exit) ≡ parityOut (now (payload .entry)) ⌝ }
 {
     if payload.len() != 2040 {
         return;
@@ -80,7 +74,7 @@ fn plain_header() -> Header
 // Nothing where the area does not have 1,908 bytes, or the output fewer than 2,081.
 #[no_mangle]
 pub extern "C" fn part_build(taps: u32, area: &[u8], out: &mut [u8])
-    ensures { λ _. ⌜ now (out .exit) ≡ cond (eqb (length (now (area .entry))) 1908 && leb 2081 (length (now (out .entry)))) (written (now (out .entry)) 0 (frameBytes taps plainHeader (now (area .entry)))) (now (out .entry)) ⌝ }
+    ensures { λ _. ⌜ now (out .exit) ≡ builtOut taps (now (area .entry)) (now (out .entry)) ⌝ }
 {
     if area.len() != 1908 {
         return;
@@ -103,7 +97,7 @@ fn number_of(answer: OpenAnswer) -> u8
 #[no_mangle]
 pub extern "C" fn part_open(taps: u32, frame: &[u8], area: &mut [u8]) -> u8
     ensures { λ r. ⌜ r ≡ openRefusal taps (now (frame .entry)) (now (area .entry)) ⌝ }
-    ensures bytes { λ _. ⌜ now (area .exit) ≡ by (openRefusal taps (now (frame .entry)) (now (area .entry))) (written (now (area .entry)) 0 (openedArea taps (now (frame .entry)))) (now (area .entry)) ⌝ }
+    ensures bytes { λ _. ⌜ now (area .exit) ≡ openedOut taps (now (frame .entry)) (now (area .entry)) ⌝ }
 {
     number_of(frame::open(taps, frame, area))
 }
