@@ -65,13 +65,20 @@ fn tell_refused(number: u8, out: &mut [u8]) {
     let end = line::text(out, 38, b"refused ");
     let behind = line::number(out, end, number as u64);
     match number {
-        2 => line::text(out, behind, b", cut short"),
-        7 => line::text(out, behind, b", preamble"),
-        8 => line::text(out, behind, b", header"),
-        12 => line::text(out, behind, b", payload"),
-        _ => behind,
+        2 => {
+            line::text(out, behind, b", cut short");
+        }
+        7 => {
+            line::text(out, behind, b", preamble");
+        }
+        8 => {
+            line::text(out, behind, b", header");
+        }
+        12 => {
+            line::text(out, behind, b", payload");
+        }
+        _ => {}
     }
-    ;
 }
 
 // What the receiver makes of the bytes that arrive.
