@@ -11,7 +11,7 @@ use Rattle.frame.specs.Frame.{frameBytes}
 use Rattle.frame.specs.Opening.{openRefusal, openedArea}
 use Rattle.header.specs.declared.Header.{Header}
 use Rattle.header.specs.declared.FrameKind.the-variants.{Data}
-use Rattle.header.specs.declared.FastChannel.the-variants.{Absent}
+use Rattle.fast_channel.specs.declared.FastChannel.the-variants.{Absent}
 
 -- DATA, frame 0: no acknowledgement, no time, no message
 abbrev pub plainHeader : Header

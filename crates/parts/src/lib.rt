@@ -1,6 +1,6 @@
 // Parts of the work on a frame, for C to call: bench/run counts the instructions of each. The library's own calls for C stand in `taqwelim`.
+use fast_channel::FastChannel;
 use frame::OpenAnswer;
-use header::FastChannel;
 use header::Fields;
 use header::FrameKind;
 use header::Header;
