@@ -1,0 +1,20 @@
+use borrow.Author.Needs.{needs}
+use Rattle.listing_lines.proofs.receiver_after.Statement.{statement}
+use Rattle.listing_lines.proofs.receiver_after.Tie as tie
+
+enum-known-answer : tie.Need-enum-known-answer
+enum-known-answer c = search needs
+
+enum-told : tie.Need-enum-told
+enum-told c = search needs
+
+returns : tie.Need-returns
+returns c =
+    let at-answer = c .before .answer in
+    rw (at-answer .given .1)
+
+returns-2 : tie.Need-returns-2
+returns-2 c = search needs
+
+pub receiver-after-spec : {M : Type 1} → statement M
+receiver-after-spec = tie.close (tie.spec enum-known-answer enum-told returns returns-2)

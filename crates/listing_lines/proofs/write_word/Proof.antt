@@ -1,0 +1,47 @@
+use mathlib.Core.Path.{refl, ap, _∙_}
+use mathlib.Core.List.{List, [], _∷_}
+use Prim.Native.Nat.{ℕ, _+_}
+use native.Mathlib.Omega.{arith}
+use lib.ListN.{length}
+use Rattle.lent.specs.Written.{written}
+use Rattle.lent.proofs.Written.{written-append}
+use borrow.Author.Needs.{needs}
+use Rattle.listing_lines.proofs.write_word.Statement.{statement}
+use Rattle.listing_lines.proofs.write_word.Tie as tie
+
+write-at-requires : tie.Need-write-at-requires
+write-at-requires c κs = search needs
+
+add-end : tie.Need-add-end
+add-end c = search needs
+
+slice-aggregate-write-at : tie.Need-slice-aggregate-write-at
+slice-aggregate-write-at c = search needs
+
+write-at-requires-2 : tie.Need-write-at-requires-2
+write-at-requires-2 c κs = search needs
+
+add-result : tie.Need-add-result
+add-result c = search needs
+
+same-length : tie.Need-same-length
+same-length c = search needs
+
+returns : tie.Need-returns
+returns c =
+    let at-write-at2 = c .before .before .write-at2 in
+    let at-args = c .before .before .before .before .before .before .before .before .before .before .before .args in
+    let at-write-at = c .before .before .before .before .before .before .before .write-at in
+    (refl, (at-write-at2 .ensures) ∙ ap (λ (l : List ℕ). written l ((at-args .at) + length (at-args .word .now)) ((at-args .behind) ∷ [])) (at-write-at .ensures) ∙ written-append (at-args .out .now) (at-args .at) (at-args .word .now) ((at-args .behind) ∷ []) (omega arith))
+
+pub write-word-spec : {M : Type 1} → statement M
+write-word-spec =
+    tie.close
+    (tie.spec
+    write-at-requires
+    add-end
+    slice-aggregate-write-at
+    write-at-requires-2
+    add-result
+    same-length
+    returns)
