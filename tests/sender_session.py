@@ -55,6 +55,7 @@ class Session:
         self.seed = seed
         self.sender = sender.Sender(0, next)
         self.buffer = seeded(seed, BUFFER)
+        self.taps = None
         self.frame = None
 
     @property
@@ -90,6 +91,7 @@ class Session:
         kind = 0
         if found == 0:
             self.sender = after
+            self.taps = taps
             self.frame = output[: frames.FRAME]
             kind = type_of(taps, self.frame)
         sizes = lent.to_bytes(2, "big") + room.to_bytes(2, "big")

@@ -3,18 +3,18 @@ use mathlib.Core.Path.{_≡_, refl, sym, ap, _∙_}
 use mathlib.Core.Bool.{Bool, true, false, cond}
 use mathlib.Core.Option.{Option, none, some}
 use mathlib.Core.List.{List, []}
-use Prim.Native.Nat.{ℕ, _+_, _<_}
+use Prim.Native.Nat.{ℕ, _<_}
 use native.Mathlib.Omega.{arith}
 use lib.Dec.{eqb}
 use lib.ListN.{length, take, drop}
-use lib.Seq.{take-at}
 use borrow.Author.Tests.{eqb-true, lt-ltb, eq-eqb, le-leb}
 use Rattle.basics.specs.Lists.{zeros, Bytes}
 use Rattle.basics.proofs.Lists.{bytes-take, bytes-drop, zeros-length}
 use Rattle.basics.proofs.Tests.{both-true}
 use Rattle.lent.specs.Outcome.{by}
 use Rattle.lent.specs.Written.{written}
-use Rattle.lent.proofs.Outcome.{accepted}
+use Rattle.lent.proofs.Outcome.{accepted, both-zero}
+use Rattle.lent.proofs.Written.{written-front}
 use Rattle.scrambler.specs.Scrambler.{tapsAllowed, scrambled}
 use Rattle.scrambler.proofs.Laws.{scrambled-bytes}
 use Rattle.header.specs.Header.{headerFits, fieldsFit}
@@ -25,7 +25,7 @@ use Rattle.header.proofs.Theorems.{read-of-coded, coded-of-read}
 use Rattle.frame.specs.Frame.{frameBytes}
 use Rattle.frame.specs.Opening.{openRefusal, outerRefusal, innerRefusal, unscrambled, openedHeader, openedArea, OpenOutcome}
 use Rattle.frame.specs.declared.OpenAnswer.the-variants.{Opened}
-use Rattle.frame.proofs.Laws.{both-zero, outer-passed}
+use Rattle.frame.proofs.Laws.{outer-passed}
 use Rattle.frame.proofs.Built.{built-accepted, built-header, built-area}
 use Rattle.frame.proofs.Accepted.{accepted-frame, accepted-fits, accepted-area}
 use Rattle.frame.proofs.Theorems.{open-of-built, built-of-open}
@@ -59,11 +59,6 @@ built-size taps header area t h long =
     let frame = frameBytes taps header area in
     let none = built-accepted taps header area long (zeros 1908) t h (omega (arith, zeros-length 1908)) in
     outer-passed taps frame (zeros 1908) (both-zero (outerRefusal taps frame (zeros 1908)) (innerRefusal (unscrambled taps frame)) none .0) .long
-
--- the front of a buffer that was written from index 0 on
-pub front-written : (buffer s : List ℕ) (n : ℕ) → length s ≡ n → take n (written buffer 0 s) ≡ s
-unfolding written
-front-written buffer s n e = take-at s (drop (0 + length s) buffer) n e
 
 -- ---- next_frame
 
@@ -103,7 +98,7 @@ sends-so taps fields sender sender′ queue out kind queue′ out′ small o =
     let size = built-size taps header (areaFor waiting) (passed .allowed) fits-header (area-size waiting is-queue) in
     rw (sent .1) (record {
       area = areaFor waiting;
-      coded = ap (take 2081) frame ∙ front-written out (frameBytes taps header (areaFor waiting)) 2081 size;
+      coded = ap (take 2081) frame ∙ written-front out (frameBytes taps header (areaFor waiting)) 2081 size;
       may-be-sent = fits-header;
       data-frame = λ t. (rw t refl, data-area waiting is-queue t);
       idle-frame = λ t. (rw t refl, rw t refl);

@@ -7,3 +7,4 @@ pub mod Receiver
 pub mod Demand3
 pub mod Runs
 pub mod Example
+pub mod ReadBack

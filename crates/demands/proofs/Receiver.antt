@@ -13,7 +13,7 @@ use Rattle.basics.specs.Counts.{nextTxfn}
 use Rattle.basics.proofs.Lists.{zeros-length}
 use Rattle.lent.specs.Written.{written}
 use Rattle.lent.proofs.Outcome.{accepted, refused, kept}
-use Rattle.lent.proofs.Written.{written-length}
+use Rattle.lent.proofs.Written.{written-length, written-front}
 use Rattle.scrambler.specs.Scrambler.{tapsAllowed}
 use Rattle.header.specs.declared.Header.{Header}
 use Rattle.frame.specs.Opening.{openRefusal, openedHeader, openedArea}
@@ -38,7 +38,7 @@ use Rattle.list.specs.Reading.{packetsRead}
 use Rattle.list.proofs.Whole.{list-read}
 use Rattle.demands.specs.Demand3.{Fate, missing, arrives, damaged, receiveLeaves, ReceiverCalls, marks, readOut, learnedFrom, learned}
 use Rattle.demands.proofs.Demand1.{every-call-holds}
-use Rattle.demands.proofs.Demand2.{built-size, front-written}
+use Rattle.demands.proofs.Demand2.{built-size}
 use Rattle.demands.proofs.Sender.{Sends, AllSend, number-is, pieces-are}
 
 -- The state and the hold's bytes stand for a receiver of `Link`, and are not refused for what they are.
@@ -189,10 +189,10 @@ module _ (taps : ℕ) (frame : List ℕ) (receiver : Receiver) (hold list : List
         taken-list taps frame receiver hold list r hold′ list′ o accepting whole z,
       )
       (record {
-        learns = ap (λ (l : List ℕ). readOut count (packetsRead l)) (front-written list (listBytes out) (length (listBytes out)) refl)
+        learns = ap (λ (l : List ℕ). readOut count (packetsRead l)) (written-front list (listBytes out) (length (listBytes out)) refl)
             ∙ ap (readOut count) (list-read out (out-packets held pieces filled (shaped taps s) e));
         holds = record {
-          stands = λ j. record { expected = some (nextTxfn (number-is taps s j)); held = front-written hold held′ (length held′) refl j };
+          stands = λ j. record { expected = some (nextTxfn (number-is taps s j)); held = written-front hold held′ (length held′) refl j };
           most = most;
           long = written-length hold 0 held′ (omega (arith, h .long)) ∙ h .long;
         };

@@ -13,14 +13,14 @@ use borrow.Author.Tests.{eq-eqb, le-leb}
 use Rattle.basics.specs.Lists.{zeros, Bytes}
 use Rattle.lent.specs.Outcome.{by}
 use Rattle.lent.specs.Written.{written}
-use Rattle.lent.proofs.Outcome.{accepted, refused, kept}
+use Rattle.lent.proofs.Outcome.{accepted, refused, kept, both-zero}
 use Rattle.lent.proofs.Written.{written-length}
 use Rattle.scrambler.specs.Scrambler.{tapsAllowed}
 use Rattle.header.specs.Header.{fieldsFit}
 use Rattle.header.specs.declared.Fields.{Fields}
 use Rattle.frame.specs.Frame.{preamble, frameBytes}
 use Rattle.frame.specs.Opening.{openRefusal, outerRefusal, innerRefusal, unscrambled, openedHeader, openedArea}
-use Rattle.frame.proofs.Laws.{both-zero, outer-passed}
+use Rattle.frame.proofs.Laws.{outer-passed}
 use Rattle.link.specs.Link as link
 use Rattle.link.specs.Link.{Packet, IsPacket, Queue, empty, withPacket, pieceThen, cutPacket, cutWaiting, cutRest, cutFrom, cut, Call}
 use Rattle.link.specs.Ledger.{accepted as isAccepted, Limit}

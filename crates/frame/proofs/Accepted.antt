@@ -10,7 +10,7 @@ use lib.Seq.{length-take-le, take-take, drop-drop, take-add}
 use Rattle.basics.specs.Lists.{Bytes}
 use Rattle.basics.proofs.Tests.{same-true}
 use Rattle.basics.proofs.Lists.{bytes-take, bytes-drop}
-use Rattle.lent.proofs.Outcome.{gate}
+use Rattle.lent.proofs.Outcome.{gate, both-zero}
 use Rattle.reed_solomon.specs.Code.{parity, isCodeword, lengthened}
 use Rattle.reed_solomon.specs.Payload.{areCodewords, codedPayload}
 use Rattle.reed_solomon.proofs.Laws.{parity-zeros, true-codeword, of-shorter}
@@ -21,7 +21,7 @@ use Rattle.header.specs.Header.{headerBytes, headerFits, headerOf, headerRefusa
 use Rattle.header.proofs.Received.{received-fits, header-again}
 use Rattle.frame.specs.Frame.{codedHeader, areaCheck, areaPayload, frameBytes}
 use Rattle.frame.specs.Opening.{unscrambled, headerPart, areaPart, areaChecked, outerRefusal, payloadRefusal, innerRefusal, openRefusal, openedHeader, openedArea}
-use Rattle.frame.proofs.Laws.{Outer, outer-passed, unscrambled-length, both-zero}
+use Rattle.frame.proofs.Laws.{Outer, outer-passed, unscrambled-length}
 
 module _ (taps : ℕ) (frame buffer : List ℕ) (bytes : Bytes frame) (none : openRefusal taps frame buffer ≡ 0) where
   abbrev body : List ℕ

@@ -1,11 +1,11 @@
 -- How long the parts of a frame are, and how an outcome that goes by two numbers meets its contract.
 use mathlib.Core.Path.{_≡_, refl, sym, ap, ap₂, _∙_}
 use mathlib.Core.List.{List, _++_}
-use mathlib.Core.Bool.{Bool, true, false, _&&_}
+use mathlib.Core.Bool.{true, _&&_}
 use Prim.Native.Nat.{ℕ, _+_, _-_, _≤_}
 use native.Mathlib.Nat.{zero-add, le-of-eq}
 use native.Mathlib.Omega.{arith}
-use borrow.Author.Tests.{eqb-true, eqb-false, leb-true, eq-eqb, le-leb}
+use borrow.Author.Tests.{eqb-true, leb-true, eq-eqb, le-leb}
 use lib.Dec.{eqb, leb, lit<}
 use lib.ListN.{length, take, drop, length-append, length-drop}
 use lib.Seq.{take-all}
@@ -13,7 +13,7 @@ use Rattle.basics.specs.Lists.{zeros, same}
 use Rattle.basics.proofs.Tests.{left-true, right-true, same-true, same-self}
 use Rattle.lent.specs.Outcome.{by}
 use Rattle.lent.specs.Written.{written}
-use Rattle.lent.proofs.Outcome.{refused, accepted, gate}
+use Rattle.lent.proofs.Outcome.{accepted, gate, refused-by}
 use Rattle.lent.proofs.Written.{written-append, take-written}
 use Rattle.reed_solomon.proofs.Laws.{parity-length}
 use Rattle.reed_solomon.proofs.Interleaved.{coded-length}
@@ -70,18 +70,6 @@ pub rest : (n : ℕ) (l : List ℕ) → take (length l - n) (drop n l) ≡ drop 
 rest n l = take-all (length l - n) (drop n l) (le-of-eq (length-drop n l))
 
 -- ---- the two numbers that `open` goes by
-
--- a number that is not 0 is the outcome's
-pub refused-by : (n m other : ℕ) → n ≡ m → (n ≡ 0 → ⊥) → n ≡ by m other m
-refused-by n m other e ne = refused n m other (λ k. k) e ne
-
--- two numbers, the second asked where the first is 0: both are 0
-pub both-zero : (n m : ℕ) → by n m n ≡ 0 → (n ≡ 0) × (m ≡ 0)
-both-zero n m e = go (eqb n 0) refl
-  where
-    go : (t : Bool) → eqb n 0 ≡ t → (n ≡ 0) × (m ≡ 0)
-    go true z = let zero-is = eqb-true n 0 z in (zero-is, accepted n n m n m refl zero-is refl ∙ e)
-    go false z = absurd (eqb-false n 0 z (refused-by n n m refl (eqb-false n 0 z) ∙ e))
 
 module _ (taps : ℕ) (frame area : List ℕ) where
   pub outer-first : (n : ℕ) → n ≡ outerRefusal taps frame area → (n ≡ 0 → ⊥) → n ≡ openRefusal taps frame area

@@ -30,7 +30,8 @@ fn kind_of(number: u8) -> FrameKind {
     }
 }
 
-fn number_of(high: u8, low: u8) -> u16 {
+// The 16-bit number of two bytes.
+pub fn number_of(high: u8, low: u8) -> u16 {
     numbers::of_two(high, low) as u16
 }
 

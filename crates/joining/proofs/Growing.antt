@@ -3,31 +3,19 @@ use mathlib.Core.Path.{_≡_, refl, sym, ap, _∙_, subst}
 use mathlib.Core.Bool.{Bool, true, false}
 use mathlib.Core.List.{List, [], _∷_, _++_, append-nil}
 use Prim.Native.Nat.{ℕ, _+_, _≤_}
-use native.Mathlib.Nat.{zero-add, add-zero}
+use native.Mathlib.Nat.{add-zero}
 use native.Mathlib.Omega.{arith}
-use lib.ListN.{length, take, length-append, take-append-drop}
+use lib.ListN.{length, take, length-append}
 use lib.Seq.{length-take-le}
 use borrow.Author.Tests.{leb-true}
 use Rattle.lent.specs.Written.{written}
-use Rattle.lent.proofs.Written.{written-append}
+use Rattle.lent.proofs.Written.{written-append, written-nothing, written-behind}
 use Rattle.link.specs.Link.{onPiece, mostJoined}
 use Rattle.link.specs.Store.{marked}
 use Rattle.joining.specs.declared.Joined.{Joined}
 use Rattle.joining.specs.Joining.{listBytes}
 use Rattle.joining.specs.Step.{grown, Ready, Growable, StepOutcome}
 use Rattle.joining.proofs.Refusals.{by-sum}
-
--- ---- writes
-
--- of nothing
-pub written-nothing : (d : List ℕ) (at : ℕ) → written d at [] ≡ d
-unfolding written
-written-nothing d at = rw (add-zero, append-nil) (take-append-drop at d)
-
--- behind a part that stands already
-pub written-behind : (d : List ℕ) (part : ℕ) (s : List ℕ) → part ≤ length d → written d part s ≡ written d 0 (take part d ++ s)
-unfolding written
-written-behind d part s h = rw (zero-add, length-append, length-take-le part d h)
 
 -- an entry of the list, in three parts
 pub entry-written : (list : List ℕ) (at : ℕ) (held rest : List ℕ) → at + 2 + length held + length rest ≤ length list

@@ -1,33 +1,39 @@
 -- What the crates above need of an area that is not refused, with at most 8,999 bytes held: the list that it gives holds packets and is short enough, and the
 -- part then held is short enough again.
 use mathlib.Core.Path.{_≡_, ap, _∙_}
-use mathlib.Core.Bool.{Bool, true, false}
-use mathlib.Core.Option.{some}
+use mathlib.Core.Bool.{Bool, true, false, cond}
+use mathlib.Core.Option.{none, some}
 use mathlib.Core.List.{List, [], _∷_, _++_}
 use Prim.Native.Nat.{ℕ, _+_, _≤_}
 use native.Mathlib.Omega.{arith}
+use lib.Dec.{eqb}
 use lib.ListN.{length, length-append}
-use borrow.Author.Tests.{leb-true}
-use Rattle.link.specs.Link.{Packet, ArePackets, Piece, onPiece, onPieces, fits, fitsPiece}
-use Rattle.link.proofs.Hold.{Shape, held-bound}
+use Rattle.link.specs.Link.{ArePackets, Piece, onPiece, onPieces}
+use Rattle.link.proofs.Hold.{held-bound, out-packets}
+use Rattle.link.proofs.Reassembly.{Filled}
 use Rattle.packing.specs.Rules.{recordsBytes}
-use Rattle.packing.specs.Reading.{readFrom}
+use Rattle.packing.specs.Reading.{readFrom, read}
 use Rattle.packing.proofs.Reading.{lies, read-piece, piece-length, read-shape}
 use Rattle.joining.specs.Joining.{recordsRefusal, joinedStep, listBytes}
-use Rattle.joining.proofs.Pieces.{lists-append, step-size, first-fits-any, first-shape, accepted}
+use Rattle.joining.proofs.Pieces.{lists-append, step-size, accepted}
 
 -- ---- pieces that were read
 
-abbrev AllSome : List Piece → Type 0
-AllSome [] = Unit {0}
-AllSome (p ∷ ps) = (1 ≤ length (p .bytes)) × AllSome ps
-
-all-some : (ps : List Piece) (area : List ℕ) (at : ℕ) → readFrom area at ≡ some ps → AllSome ps
-all-some [] area at e = tt
-all-some (p ∷ ps) area at e =
+-- none of them is empty
+filled : (ps : List Piece) (area : List ℕ) (at : ℕ) → readFrom area at ≡ some ps → Filled ps
+filled [] area at e = tt
+filled (p ∷ ps) area at e =
     let b = read-piece area at p ps e in
     let l = lies area at (b .found) (b .here) in
-    (rw (b .is) (omega (arith, piece-length area at (b .found) l, l .low)), all-some ps area (b .found .start + b .found .length) (b .behind))
+    (rw (b .is) (omega (arith, piece-length area at (b .found) l, l .low)), filled ps area (b .found .start + b .found .length) (b .behind))
+
+pub read-filled : (area : List ℕ) (ps : List Piece) → read area ≡ some ps → Filled ps
+unfolding read
+read-filled area ps = go (eqb (length area) 1908)
+  where
+    go : (test : Bool) → cond test (readFrom area 0) none ≡ some ps → Filled ps
+    go true e = filled ps area 0 e
+    go false e = let z : _≡_ {A = ℕ} 0 1 = cc in absurd (omega arith)
 
 -- their records lie in the area
 inside-area : (ps : List Piece) (area : List ℕ) (at : ℕ) → at ≤ length area → readFrom area at ≡ some ps → at + length (recordsBytes ps) ≤ length area
@@ -40,28 +46,6 @@ inside-area (p ∷ ps) area at h e =
     omega (arith, bytes, more, l .start, length-append (p .bytes) (recordsBytes ps))
 
 -- ---- what pieces complete
-
-append-packets : (ps qs : List Packet) → ArePackets ps → ArePackets qs → ArePackets (ps ++ qs)
-append-packets [] qs h k = k
-append-packets (p ∷ ps) qs h k = (h .0, append-packets ps qs (h .1) k)
-
-step-packets : (held : List ℕ) (first last : Bool) (bytes : List ℕ) → 1 ≤ length bytes → length bytes ≤ 8999 → fitsPiece held first last bytes ≡ true
-    → ArePackets (onPiece held first last bytes .out)
-step-packets held true true bytes l h f = ((omega arith, omega arith), tt)
-step-packets held true false bytes l h f = tt
-step-packets [] false last bytes l h f = tt
-step-packets (x ∷ held) false true bytes l h f =
-    let n = length-append (x ∷ held) bytes in
-    ((omega arith, omega (arith, leb-true (length (x ∷ held) + length bytes) 9000 f)), tt)
-step-packets (x ∷ held) false false bytes l h f = tt
-
-out-packets : (held : List ℕ) (ps : List Piece) → Shape ps → AllSome ps → fits held ps ≡ true → ArePackets (onPieces held ps .out)
-out-packets held [] s a f = tt
-out-packets held (p ∷ ps) s a f =
-    let step = onPiece held (p .first) (p .last) (p .bytes) in
-    append-packets (step .out) (onPieces (step .held) ps .out)
-    (step-packets held (p .first) (p .last) (p .bytes) (a .0) (s .0) f)
-    (out-packets (step .held) ps (first-shape ps (s .1)) (a .1) (first-fits-any (step .held) ps (s .1)))
 
 -- a packet takes no more bytes in the list than its records in the areas, but for what was held
 out-size : (held : List ℕ) (ps : List Piece)
@@ -81,7 +65,7 @@ module _ (held area : List ℕ) (e : recordsRefusal held area ≡ 0) where
   unfolding joinedStep
   joined-packets =
       let a = accepted held area e in
-      rw (a .whole) (out-packets held (a .pieces) (read-shape area (a .pieces) (a .whole)) (all-some (a .pieces) area 0 (a .from-start)) (a .fitting))
+      rw (a .whole) (out-packets held (a .pieces) (read-filled area (a .pieces) (a .whole)) (read-shape area (a .pieces) (a .whole)) (a .fitting))
 
   module _ (low : length held ≤ 8999) where
     pub joined-listed : length (listBytes (joinedStep held area .out)) ≤ 10907

@@ -9,7 +9,7 @@ use native.Mathlib.Omega.{arith}
 use lib.ListN.{length, take, drop, length-append}
 use lib.Seq.{length-take-le}
 use Rattle.lent.specs.Written.{written}
-use Rattle.lent.proofs.Written.{take-written, written-append, written-length}
+use Rattle.lent.proofs.Written.{take-written, written-append, written-length, written-nothing, written-own}
 use Rattle.link.specs.Link.{Packet, Piece, Step, onPiece, stepThen, onPieces, fits, fitsPiece}
 use Rattle.link.proofs.Hold.{AllFirst, Shape}
 use Rattle.packing.specs.declared.Record.{Record}
@@ -20,7 +20,6 @@ use Rattle.joining.specs.declared.Joined.{Joined}
 use Rattle.joining.specs.Joining.{recordsRefusal, joinedStep, listBytes, JoinOutcome}
 use Rattle.joining.specs.Step.{Ready, StepOutcome}
 use Rattle.joining.proofs.Refusals.{part-is}
-use Rattle.joining.proofs.Growing.{written-nothing, written-behind}
 use Rattle.joining.proofs.Pieces.{lists-append, step-size, step-few, step-last, step-held, first-fits-any, first-shape, accepted}
 
 -- ---- the invariant
@@ -70,9 +69,6 @@ module _ (area : List ℕ) (before : ℕ) (hold₀ list₀ : List ℕ)
         room = omega arith;
         few = omega arith;
       }
-    where
-      written-own : (d : List ℕ) (n : ℕ) → n ≤ length d → written d 0 (take n d) ≡ d
-      written-own d n h = ap (written d 0) (sym (append-nil (take n d))) ∙ sym (written-behind d n [] h) ∙ written-nothing d n
 
 -- ---- a turn
 

@@ -45,3 +45,17 @@ gate false behind number p e = absurd (no-zero number p e)
 -- a test that passed, with those behind it
 pub with-test : {a b x : Bool} → a ≡ true → x ≡ b → x ≡ (a && b)
 with-test {a} {b} {x} p q = rw p q
+
+-- ---- two numbers, the second asked where the first is 0
+
+-- the first, where it is not 0
+pub refused-by : (n m other : ℕ) → n ≡ m → (n ≡ 0 → ⊥) → n ≡ by m other m
+refused-by n m other e ne = refused n m other (λ k. k) e ne
+
+-- where the outcome is 0 both are
+pub both-zero : (n m : ℕ) → by n m n ≡ 0 → (n ≡ 0) × (m ≡ 0)
+both-zero n m e = go (eqb n 0) refl
+  where
+    go : (t : Bool) → eqb n 0 ≡ t → (n ≡ 0) × (m ≡ 0)
+    go true z = let zero-is = eqb-true n 0 z in (zero-is, accepted n n m n m refl zero-is refl ∙ e)
+    go false z = absurd (eqb-false n 0 z (refused-by n n m refl (eqb-false n 0 z) ∙ e))

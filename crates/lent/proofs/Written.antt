@@ -1,12 +1,12 @@
 -- Laws of `written`, and of a loop that writes one byte a turn.
 use mathlib.Core.Path.{_≡_, sym, ap, _∙_}
-use mathlib.Core.List.{List, _++_, append-assoc, append-nil}
+use mathlib.Core.List.{List, [], _++_, append-assoc, append-nil}
 use Prim.Native.Nat.{ℕ, _+_, _-_, _≤_, _<_}
-use native.Mathlib.Nat.{add-assoc, zero-add}
+use native.Mathlib.Nat.{add-assoc, add-zero, zero-add}
 use native.Mathlib.Numerals.{add-one}
 use native.Mathlib.Omega.{arith}
-use lib.ListN.{length, getD, take, drop, set, length-take, length-drop, length-append, drop-of-length-le}
-use lib.Seq.{paste, paste-zero, paste-suc, getD-append-add, getD-drop, take-at, drop-at, drop-drop, drop-length, take-length, take-all}
+use lib.ListN.{length, getD, take, drop, set, length-take, length-drop, length-append, drop-of-length-le, take-append-drop}
+use lib.Seq.{paste, paste-zero, paste-suc, getD-append-add, getD-drop, take-at, drop-at, drop-drop, drop-length, take-length, take-all, length-take-le}
 use Rattle.basics.specs.Lists.{Bytes}
 use Rattle.basics.proofs.Lists.{bytes-append, bytes-take, bytes-drop}
 use Rattle.lent.specs.Written.{written}
@@ -91,3 +91,23 @@ pub bytes-written : (d : List ℕ) (at : ℕ) (s : List ℕ) → Bytes d → Byt
 unfolding written
 bytes-written d at s b c =
     bytes-append (take at d ++ s) (drop (at + length s) d) (bytes-append (take at d) s (bytes-take at d b) c) (bytes-drop (at + length s) d b)
+
+-- nothing is written
+pub written-nothing : (d : List ℕ) (at : ℕ) → written d at [] ≡ d
+unfolding written
+written-nothing d at = rw (add-zero, append-nil) (take-append-drop at d)
+
+-- behind a part that stands already
+pub written-behind : (d : List ℕ) (at : ℕ) (s : List ℕ) → at ≤ length d → written d at s ≡ written d 0 (take at d ++ s)
+unfolding written
+written-behind d at s h = rw (zero-add, length-append, length-take-le at d h)
+
+-- a buffer's own front
+pub written-own : (d : List ℕ) (n : ℕ) → n ≤ length d → written d 0 (take n d) ≡ d
+unfolding written
+written-own d n h = rw (zero-add, length-take-le n d h) (take-append-drop n d)
+
+-- the front of a buffer that was written from index 0 on
+pub written-front : (d s : List ℕ) (n : ℕ) → length s ≡ n → take n (written d 0 s) ≡ s
+unfolding written
+written-front d s n e = take-at s (drop (0 + length s) d) n e

@@ -4,33 +4,32 @@ use mathlib.Core.Bool.{Bool, true, false, cond, _&&_}
 use mathlib.Core.Option.{Option, none, some}
 use mathlib.Core.List.{List, []}
 use Prim.Native.Nat.{ℕ, zero, suc, _≤_}
-use native.Mathlib.Nat.{zero-add}
 use native.Mathlib.Omega.{arith}
 use lib.Dec.{eqb, leb}
-use lib.ListN.{length, take, length-take, take-append-drop}
+use lib.ListN.{length, take, length-take}
 use lib.Seq.{length-take-le}
 use borrow.Author.Tests.{eqb-true, leb-true, ne-eqb}
 use Rattle.basics.specs.Counts.{nextTxfn}
 use Rattle.basics.proofs.Tests.{left-true, right-true}
 use Rattle.lent.specs.Written.{written}
-use Rattle.lent.proofs.Outcome.{accepted, numbered, gate}
-use Rattle.lent.proofs.Written.{written-length}
+use Rattle.lent.proofs.Outcome.{accepted, numbered, gate, refused-by, both-zero}
+use Rattle.lent.proofs.Written.{written-length, written-own, written-nothing}
 use Rattle.link.specs.Link as link
 use Rattle.link.specs.Packing.{receiveRead}
-use Rattle.link.proofs.Hold.{Shape, receive-bound}
+use Rattle.link.proofs.Hold.{Shape, receive-bound, out-packets}
+use Rattle.link.proofs.Reassembly.{Filled}
 use Rattle.joining.specs.Joining.{piecesRefusal, recordsRefusal, orNone, joinedStep, listBytes, JoinOutcome}
 use Rattle.joining.specs.declared.Joined.{Joined}
-use Rattle.joining.proofs.Growing.{written-nothing}
+use Rattle.joining.proofs.Laws.{read-filled}
 use Rattle.packing.specs.Reading.{read}
 use Rattle.packing.proofs.Reading.{read-shape}
 use Rattle.header.specs.declared.FrameKind.{FrameKind}
 use Rattle.header.specs.declared.Header.{Header}
-use Rattle.frame.proofs.Laws.{refused-by, both-zero}
 use Rattle.receiver.specs.declared.Expected.the-variants.{Frame}
 use Rattle.receiver.specs.declared.Receiver.{Receiver}
 use Rattle.receiver.specs.declared.ApplyAnswer.{ApplyAnswer}
 use Rattle.receiver.specs.declared.ApplyAnswer.the-variants.{Applied, Refused}
-use Rattle.receiver.specs.Applying.{standing, isData, piecesOf, received, numberOf, receiverAfter, buffersRefusal, applyRefusal, ApplyOutcome, applyNumber, areaRefusal, appliedAnswer}
+use Rattle.receiver.specs.Applying.{standing, isData, piecesOf, received, numberOf, packetsOf, receiverAfter, buffersRefusal, applyRefusal, ApplyOutcome, applyNumber, areaRefusal, appliedAnswer}
 
 -- ---- 2 and 3
 
@@ -157,11 +156,6 @@ judged header area receiver hold list {missed} {held} {number} pass counted stil
 
 -- ---- from what joining did to the contract
 
--- a buffer with its own front written to it
-written-own : (buffer : List ℕ) (n : ℕ) → n ≤ length buffer → buffer ≡ written buffer 0 (take n buffer)
-unfolding written
-written-own buffer n h = sym (rw (zero-add, length-take-le n buffer h) (take-append-drop n buffer))
-
 -- an answer, part by part
 applied-path : {missed missed′ packets packets′ listed listed′ held held′ : ℕ} (number : ℕ)
     → missed ≡ missed′ → packets ≡ packets′ → listed ≡ listed′ → held ≡ held′
@@ -213,7 +207,7 @@ module _ {header : Header} {area : List ℕ} {receiver : Receiver} {hold list : 
   other-done d =
       let inside : held ≤ length hold = omega (arith, k .few, k .passed .most, k .passed .long) in
       as-joined (record { held = take held hold; out = [] }) (taken-is false d)
-      (sym (length-take-le held hold inside)) refl refl (written-own hold held inside) (sym (written-nothing list 0))
+      (sym (length-take-le held hold inside)) refl refl (sym (written-own hold held inside)) (sym (written-nothing list 0))
 
 -- ---- the call
 
@@ -250,6 +244,39 @@ received-most header area receiver hold h = go (piecesOf (header .kind) area) (p
         → length (receiveRead (standing receiver hold) (header .txfn .0) pieces .state .held) ≤ 8999
     go none shape = few
     go (some pieces) shape = receive-bound (standing receiver hold) (header .txfn .0) pieces few (shape pieces refl)
+
+-- ---- what is completed are packets, whoever sent the frame
+
+pieces-filled : (kind : FrameKind) (area : List ℕ) (pieces : List link.Piece) → piecesOf kind area ≡ some pieces → Filled pieces
+pieces-filled kind area pieces = go (isData kind)
+  where
+    go : (test : Bool) → cond test (read area) (some []) ≡ some pieces → Filled pieces
+    go true e = read-filled area pieces e
+    go false e = let none-are : [] ≡ pieces = cc in rw (← none-are) tt
+
+pub received-packets : (header : Header) (area : List ℕ) (receiver : Receiver) (hold : List ℕ)
+    → link.ArePackets (packetsOf (received header area receiver hold .answer))
+unfolding received link.receive
+received-packets header area receiver hold = go (piecesOf (header .kind) area) (pieces-shape (header .kind) area) (pieces-filled (header .kind) area)
+  where
+    state : link.Receiver
+    state = standing receiver hold
+
+    number : ℕ
+    number = header .txfn .0
+
+    fitting : (count : ℕ) (held : List ℕ) (ps : List link.Piece) (test : Bool) → link.fits held ps ≡ test → Shape ps → Filled ps
+        → link.ArePackets (packetsOf (link.receiveWith state number count held ps .answer))
+    fitting count held ps true e shape full = rw e (out-packets held ps full shape e)
+    fitting count held ps false e shape full = rw e tt
+
+    go : (pieces : Option (List link.Piece)) → ((ps : List link.Piece) → pieces ≡ some ps → Shape ps) → ((ps : List link.Piece) → pieces ≡ some ps → Filled ps)
+        → link.ArePackets (packetsOf (receiveRead state number pieces .answer))
+    go none shape full = tt
+    go (some ps) shape full =
+        let count = link.missed (state .expected) number in
+        let held = link.heldAfter count (state .held) in
+        fitting count held ps (link.fits held ps) refl (shape ps refl) (full ps refl)
 
 -- Whatever frame was applied, at most 8,999 bytes are held after it, and the hold is as long as before.
 pub apply-own : (header : Header) (area : List ℕ) (receiver : Receiver) (hold list : List ℕ) (missed packets listed : ℕ) (after : Receiver) (hold′ list′ : List ℕ)

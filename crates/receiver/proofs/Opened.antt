@@ -12,13 +12,13 @@ use Rattle.basics.specs.Lists.{zeros}
 use Rattle.basics.proofs.Lists.{zeros-length}
 use Rattle.lent.specs.Outcome.{by}
 use Rattle.lent.specs.Written.{written}
-use Rattle.lent.proofs.Outcome.{accepted, gate}
+use Rattle.lent.proofs.Outcome.{accepted, gate, refused-by}
 use Rattle.lent.proofs.Written.{written-whole}
 use Rattle.scrambler.specs.Scrambler.{tapsAllowed}
 use Rattle.header.specs.declared.Header.{Header}
 use Rattle.frame.specs.Opening.{unscrambled, openedHeader, openedArea, openAnswer}
 use Rattle.frame.specs.declared.OpenAnswer.the-variants as opening
-use Rattle.frame.proofs.Laws.{refused-by, unscrambled-length}
+use Rattle.frame.proofs.Laws.{unscrambled-length}
 use Rattle.link.specs.Link as link
 use Rattle.receiver.specs.declared.Receiver.{Receiver}
 use Rattle.receiver.specs.declared.ApplyAnswer.{ApplyAnswer}

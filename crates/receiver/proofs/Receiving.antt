@@ -4,10 +4,9 @@ use mathlib.Core.List.{List}
 use Prim.Native.Nat.{ℕ, _≤_}
 use native.Mathlib.Omega.{arith}
 use lib.ListN.{length}
-use Rattle.lent.proofs.Outcome.{accepted, numbered}
+use Rattle.lent.proofs.Outcome.{accepted, numbered, both-zero}
 use Rattle.lent.proofs.Written.{written-length}
 use Rattle.header.specs.declared.Header.{Header}
-use Rattle.frame.proofs.Laws.{both-zero}
 use Rattle.frame.specs.Opening.{openedHeader, openedArea}
 use Rattle.receiver.specs.declared.Receiver.{Receiver}
 use Rattle.receiver.specs.declared.ReceiveAnswer.{ReceiveAnswer}

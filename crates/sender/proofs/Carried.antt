@@ -1,4 +1,4 @@
--- What building a frame does to the queue that the bytes stand for (demand 3): `nexts` of link's Machine.
+-- What building a frame does to the queue that the bytes stand for (demand 3).
 use mathlib.Core.Path.{_≡_, refl, sym, ap, _∙_}
 use mathlib.Core.Bool.{Bool, true, false, cond}
 use mathlib.Core.Option.{Option, none, some}
@@ -6,8 +6,7 @@ use mathlib.Core.List.{List, [], _∷_, _++_}
 use Prim.Native.Nat.{ℕ, zero, suc, _+_, _-_, _%_}
 use native.Mathlib.Omega.{arith}
 use lib.Dec.{eqb, leb}
-use lib.ListN.{length, take, drop, length-append}
-use lib.Seq.{take-at}
+use lib.ListN.{length, take, length-append}
 use borrow.Author.Tests.{eqb-true, lt-ltb}
 use Rattle.basics.specs.Lists.{Bytes}
 use Rattle.basics.proofs.Lists.{bytes-append, bytes-behind, bytes-drop, bytes-front, bytes-take, zeros-length}
@@ -36,7 +35,7 @@ use Rattle.scrambler.specs.Scrambler.{scrambled}
 use Rattle.sender.specs.Next.{areaFor, headerFor, leftIn, senderAfter, kindFor, nextRefusal, NextOutcome}
 use Rattle.sender.specs.declared.Sender.{Sender}
 use Rattle.sender.specs.declared.NextAnswer.the-variants.{Sent, Refused}
-use Rattle.lent.proofs.Written.{bytes-written}
+use Rattle.lent.proofs.Written.{bytes-written, written-front}
 use Rattle.sender.proofs.Stands.{Stands}
 use Rattle.sender.proofs.Sending.{next-passed}
 
@@ -139,11 +138,6 @@ unfolding frameBytes
 frame-length taps header area long =
     length-append preamble (scrambled taps (codedHeader header ++ areaPayload area)) ∙ ap (λ (n : ℕ). 9 + n) (body-length taps header area long)
 
--- the front of a buffer that was written from index 0 on
-front-written : (buffer s : List ℕ) (n : ℕ) → length s ≡ n → take n (written buffer 0 s) ≡ s
-unfolding written
-front-written buffer s n e = take-at s (drop (0 + length s) buffer) n e
-
 -- A frame that is built carries what `Packing` says of the queue, and what it carries leaves the queue.
 pub next-stands : (taps : ℕ) (fields : Fields) (sender : Sender) (bytes out : List ℕ) (sender′ : Sender) (kind : FrameKind) (bytes′ out′ : List ℕ) (i : ℕ) (queue : Queue)
     → NextOutcome taps fields sender bytes out (Sent sender′ kind) bytes′ out′ → Stands bytes sender i queue
@@ -172,12 +166,12 @@ next-stands taps fields sender bytes out sender′ kind bytes′ out′ i queue 
         counted = s .number;
         kind-is = sym (content .2);
         long = ap length (content .0) ∙ content .1;
-        coded = ap (take 2081) frame ∙ front-written out (frameBytes taps header (areaFor queue)) 2081 (frame-length taps header (areaFor queue) (content .1))
+        coded = ap (take 2081) frame ∙ written-front out (frameBytes taps header (areaFor queue)) 2081 (frame-length taps header (areaFor queue) (content .1))
             ∙ ap (frameBytes taps header) (sym (content .0));
       },
       rw (state, moved) (record {
         are-bytes = bytes-written bytes 0 (layout left) (s .are-bytes) (bytes-layout left left-queue (left-bytes (load queue) queue (layout-bytes queue bytes-queue)));
-        parsed = ap parse (front-written bytes (layout left) (length (layout left)) refl) ∙ parse-back left left-queue;
+        parsed = ap parse (written-front bytes (layout left) (length (layout left)) refl) ∙ parse-back left left-queue;
         number = ap (λ (n : ℕ). (n + 1) % 65536) (s .number) ∙ omega arith;
       }),
     )

@@ -72,7 +72,7 @@ taken-zero n after sender = go (eqb n 0) refl
     go true t e = (eqb-true n 0 t, cc)
     go false t e = let z : _≡_ {A = ℕ} 0 1 = cc in absurd (omega arith)
 
--- What is taken is a packet, and stands behind the others: `puts` of link's Machine.
+-- What is taken is a packet, and stands behind the others.
 pub put-stands : (bytes : List ℕ) (sender : Sender) (packet : List ℕ) (sender′ : Sender) (bytes′ : List ℕ) (i : ℕ) (queue : Queue)
     → PutOutcome bytes sender packet (Taken sender′) bytes′ → Bytes packet → Stands bytes sender i queue
     → IsPacket packet × Stands bytes′ sender′ i (withPacket queue packet)

@@ -8,17 +8,13 @@ use sender::PutAnswer;
 use sender::Sender;
 use vectors::numbers;
 
-fn number_of(high: u8, low: u8) -> u16 {
-    numbers::of_two(high, low) as u16
-}
-
 // The state in the first 10 bytes.
 pub fn sender(bytes: &[u8]) -> Sender
     requires { ⌜ 10 ≤ length (now bytes) ⌝ }
 {
     let high = numbers::of_four(bytes[0], bytes[1], bytes[2], bytes[3]);
     let low = numbers::of_four(bytes[4], bytes[5], bytes[6], bytes[7]);
-    let next = number_of(bytes[8], bytes[9]);
+    let next = fields::number_of(bytes[8], bytes[9]);
     Sender {
         used: numbers::of_eight(high, low) as usize,
         next: Txfn(next),

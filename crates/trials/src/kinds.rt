@@ -3,14 +3,24 @@ use code_trials::codes;
 use frame_trials::Lent;
 use frame_trials::frames;
 use header_trials::headers;
+use receiver_trials::arrivals;
+use receiver_trials::buffers;
+use receiver_trials::entries;
 use sender_trials::calls;
 use sender_trials::queues;
 use vectors::outcome::Outcome;
 use vectors::tally::Tally;
 use vectors::text;
 
-// The frame at hand is the last that a record brought. It and the sender's queue stay from record to record.
-pub fn outcome(kind: u8, body: &mut [u8], at_hand: &mut Lent, queue: &mut [u8]) -> Outcome {
+// The frame at hand is the last that a record brought. It, the sender's queue and the receiver's hold and list stay from record to record.
+pub fn outcome(
+    kind: u8,
+    body: &mut [u8],
+    at_hand: &mut Lent,
+    queue: &mut [u8],
+    hold: &mut [u8],
+    list: &mut [u8],
+) -> Outcome {
     match kind {
         1 => codes::crc_16(body),
         2 => codes::crc_32(body),
@@ -32,6 +42,12 @@ pub fn outcome(kind: u8, body: &mut [u8], at_hand: &mut Lent, queue: &mut [u8]) 
         18 => calls::put(body, queue),
         19 => calls::next_frame(body, queue, at_hand),
         20 => queues::in_full(body, queue),
+        21 => buffers::begun(body, hold, list),
+        22 => arrivals::received(body, at_hand, hold, list),
+        23 => buffers::list_changed(body, list),
+        24 => entries::read(body, list),
+        25 => buffers::front_in_full(body, list),
+        26 => buffers::front_in_full(body, hold),
         _ => Outcome::Malformed,
     }
 }
@@ -58,4 +74,10 @@ pub fn print(tally: Tally) {
     tally.print_kind(18, b"packet put");
     tally.print_kind(19, b"next frame");
     tally.print_kind(20, b"queue in full");
+    tally.print_kind(21, b"hold and list begun");
+    tally.print_kind(22, b"frame received");
+    tally.print_kind(23, b"list changed");
+    tally.print_kind(24, b"list read");
+    tally.print_kind(25, b"list in full");
+    tally.print_kind(26, b"hold in full");
 }

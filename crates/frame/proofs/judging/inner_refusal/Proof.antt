@@ -3,8 +3,7 @@ use mathlib.Core.Path.{sym, _∙_}
 use borrow.Author.Tests.{not-true, not-false}
 use lib.Seq.{length-take-le}
 use Rattle.frame.specs.Opening.{innerRefusal}
-use Rattle.lent.proofs.Outcome.{accepted}
-use Rattle.frame.proofs.Laws.{refused-by}
+use Rattle.lent.proofs.Outcome.{accepted, refused-by}
 use borrow.Author.Needs.{needs}
 use Rattle.frame.proofs.judging.inner_refusal.Statement.{statement}
 use Rattle.frame.proofs.judging.inner_refusal.Tie as tie

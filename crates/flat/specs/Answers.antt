@@ -1,0 +1,58 @@
+-- What C gets for each answer of the library: the refusal's number, 0 for none, and the values. After a refusal the state is the one that was given,
+-- and all else is 0.
+use Rattle.header.specs.Header.{kindNumber}
+use Rattle.header.specs.declared.ReadAnswer.{ReadAnswer}
+use Rattle.header.specs.declared.ReadAnswer.the-variants as read
+use Rattle.list.specs.declared.EntryAnswer.{EntryAnswer}
+use Rattle.list.specs.declared.EntryAnswer.the-variants as entry
+use Rattle.receiver.specs.declared.ReceiveAnswer.{ReceiveAnswer}
+use Rattle.receiver.specs.declared.ReceiveAnswer.the-variants as receive
+use Rattle.sender.specs.declared.PutAnswer.{PutAnswer}
+use Rattle.sender.specs.declared.PutAnswer.the-variants as put
+use Rattle.sender.specs.declared.NextAnswer.{NextAnswer}
+use Rattle.sender.specs.declared.NextAnswer.the-variants as next
+use Rattle.flat.specs.Headers.{flatHeader, noHeader}
+use Rattle.flat.specs.States.{flatSender, flatReceiver}
+use Rattle.flat.specs.declared.states.FlatReceiver.{FlatReceiver}
+use Rattle.flat.specs.declared.states.FlatSender.{FlatSender}
+use Rattle.flat.specs.declared.answers.FlatPut.{FlatPut}
+use Rattle.flat.specs.declared.answers.FlatNext.{FlatNext}
+use Rattle.flat.specs.declared.answers.FlatReceive.{FlatReceive}
+use Rattle.flat.specs.declared.answers.FlatRead.{FlatRead}
+use Rattle.flat.specs.declared.answers.FlatEntry.{FlatEntry}
+use Rattle.flat.specs.declared.answers.FlatPacket.{FlatPacket}
+
+abbrev pub flatPut : FlatSender → PutAnswer → FlatPut
+flatPut given (put.Taken sender) = record { sender = flatSender sender; refusal = 0 }
+flatPut given (put.Refused number) = record { sender = given; refusal = number }
+
+abbrev pub flatNext : FlatSender → NextAnswer → FlatNext
+flatNext given (next.Sent sender kind) = record { sender = flatSender sender; kind = kindNumber kind; refusal = 0 }
+flatNext given (next.Refused number) = record { sender = given; kind = 0; refusal = number }
+
+abbrev pub flatReceive : FlatReceiver → ReceiveAnswer → FlatReceive
+flatReceive given (receive.Received header missed packets listed receiver) = record {
+  header = flatHeader header;
+  receiver = flatReceiver receiver;
+  packets = packets;
+  listed = listed;
+  missed = missed;
+  refusal = 0;
+}
+flatReceive given (receive.Refused number) = record { header = noHeader; receiver = given; packets = 0; listed = 0; missed = 0; refusal = number }
+
+abbrev pub flatRead : ReadAnswer → FlatRead
+flatRead (read.Read header) = record { header = flatHeader header; refusal = 0 }
+flatRead (read.Refused number) = record { header = noHeader; refusal = number }
+
+-- found is 1 for a packet, and 0 at the end and after a refusal
+abbrev pub flatEntry : EntryAnswer → FlatEntry
+flatEntry (entry.Packet start length next) = record { start = start; length = length; next = next; found = 1; refusal = 0 }
+flatEntry entry.End = record { start = 0; length = 0; next = 0; found = 0; refusal = 0 }
+flatEntry (entry.Refused number) = record { start = 0; length = 0; next = 0; found = 0; refusal = number }
+
+-- C gets no reference: where the packet stands in the caller's list, an empty part at an end or a refusal
+abbrev pub flatPacket : EntryAnswer → FlatPacket
+flatPacket (entry.Packet start length next) = record { start = start; length = length }
+flatPacket entry.End = record { start = 0; length = 0 }
+flatPacket (entry.Refused number) = record { start = 0; length = 0 }

@@ -1,0 +1,4 @@
+pub mod Answers
+pub mod Headers
+pub mod Messages
+pub mod States

@@ -1,0 +1,20 @@
+use mathlib.Core.Path.{ap, _∙_}
+use Rattle.header.specs.Header.{bit}
+use borrow.Author.Needs.{needs}
+use Rattle.parts.proofs.part_are_codewords.Statement.{statement}
+use Rattle.parts.proofs.part_are_codewords.Tie as tie
+
+are-codewords-requires : tie.Need-are-codewords-requires
+are-codewords-requires c κs = search needs
+
+bit-of-requires : tie.Need-bit-of-requires
+bit-of-requires c κs = search needs
+
+returns : tie.Need-returns
+returns c =
+    let at-bit-of = c .bit-of in
+    let at-are-codewords = c .before .are-codewords in
+    (at-bit-of .ensures) ∙ ap bit (at-are-codewords .ensures)
+
+pub part-are-codewords-spec : {M : Type 1} → statement M
+part-are-codewords-spec = tie.close (tie.spec are-codewords-requires bit-of-requires returns)

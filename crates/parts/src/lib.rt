@@ -1,0 +1,103 @@
+// Parts of the work on a frame, for C to call: bench/run counts the instructions of each. The library's own calls for C stand in `taqwelim`.
+use fast_channel::FastChannel;
+use frame::OpenAnswer;
+use header::Fields;
+use header::FrameKind;
+use header::Header;
+use header::Rxfn;
+use header::Txfn;
+ghost use mathlib.Core.Path.{_≡_};
+ghost use Rattle.crc.specs.Crc.{crc-32};
+ghost use Rattle.scrambler.specs.Scrambler.{scrambled};
+ghost use Rattle.reed_solomon.specs.Payload.{areCodewords};
+ghost use Rattle.frame.specs.Opening.{openRefusal, openNumber};
+ghost use Rattle.header.specs.Header.{bit};
+ghost use Rattle.parts.specs.Parts.{plainHeader, parityOut, builtOut, openedOut};
+
+#[no_mangle]
+pub extern "C" fn part_crc_32(bytes: &[u8]) -> u32
+    ensures { λ r. ⌜ r ≡ crc-32 (now (bytes .entry)) ⌝ }
+{
+    crc::crc_32(bytes)
+}
+
+#[no_mangle]
+pub extern "C" fn part_scramble(taps: u32, bytes: &mut [u8])
+    ensures { λ _. ⌜ now (bytes .exit) ≡ scrambled taps (now (bytes .entry)) ⌝ }
+{
+    scrambler::scramble(taps, bytes);
+}
+
+// Nothing where the payload does not have 2,040 bytes.
+#[no_mangle]
+pub extern "C" fn part_write_parity(payload: &mut [u8])
+    ensures { λ _. ⌜ now (payload .exit) ≡ parityOut (now (payload .entry)) ⌝ }
+{
+    if payload.len() != 2040 {
+        return;
+    }
+    reed_solomon::write_parity(payload);
+}
+
+fn bit_of(flag: bool) -> u8
+    ensures { λ r. ⌜ r ≡ bit flag ⌝ }
+{
+    if flag { 1 } else { 0 }
+}
+
+#[no_mangle]
+pub extern "C" fn part_are_codewords(payload: &[u8]) -> u8
+    ensures { λ r. ⌜ r ≡ bit (areCodewords (now (payload .entry))) ⌝ }
+{
+    bit_of(reed_solomon::are_codewords(payload))
+}
+
+// DATA, frame 0, and nothing else to tell.
+fn plain_header() -> Header
+    ensures { λ r. ⌜ r ≡ plainHeader ⌝ }
+{
+    Header {
+        txfn: Txfn(0),
+        kind: FrameKind::Data,
+        fields: Fields {
+            rxfn: Rxfn(0),
+            ack: false,
+            valid: false,
+            stamp: 0,
+            seconds: 0,
+            applies: 0,
+            message: FastChannel::Absent,
+        },
+    }
+}
+
+// Nothing where the area does not have 1,908 bytes, or the output fewer than 2,081.
+#[no_mangle]
+pub extern "C" fn part_build(taps: u32, area: &[u8], out: &mut [u8])
+    ensures { λ _. ⌜ now (out .exit) ≡ builtOut taps (now (area .entry)) (now (out .entry)) ⌝ }
+{
+    if area.len() != 1908 {
+        return;
+    }
+    if out.len() < 2081 {
+        return;
+    }
+    frame::build(taps, plain_header(), area, out);
+}
+
+fn number_of(answer: OpenAnswer) -> u8
+    ensures { λ r. ⌜ r ≡ openNumber answer ⌝ }
+{
+    match answer {
+        OpenAnswer::Opened(header) => 0,
+        OpenAnswer::Refused(number) => number,
+    }
+}
+
+#[no_mangle]
+pub extern "C" fn part_open(taps: u32, frame: &[u8], area: &mut [u8]) -> u8
+    ensures { λ r. ⌜ r ≡ openRefusal taps (now (frame .entry)) (now (area .entry)) ⌝ }
+    ensures bytes { λ _. ⌜ now (area .exit) ≡ openedOut taps (now (frame .entry)) (now (area .entry)) ⌝ }
+{
+    number_of(frame::open(taps, frame, area))
+}

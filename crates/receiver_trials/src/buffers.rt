@@ -1,0 +1,62 @@
+// The kinds of record that set the bytes of hold and list, or compare them.
+use frame_trials::lent_bytes;
+use vectors::digest;
+use vectors::numbers;
+use vectors::outcome;
+use vectors::outcome::Outcome;
+use vectors::seeded;
+
+// The hold that is lent to calls, and some bytes behind it, so that a byte written past its end is seen. No bytes yet.
+pub fn no_hold() -> [u8; 9012] {
+    [0u8; 9012]
+}
+
+// The list's buffer, and some bytes behind it.
+pub fn no_list() -> [u8; 10920] {
+    [0u8; 10920]
+}
+
+// Whether the bytes have a digest of 8 bytes.
+fn outcome_of(bytes: &[u8], expected: &[u8]) -> Outcome {
+    let found = numbers::eight_bytes(digest::of(bytes));
+    outcome::of(&found, expected)
+}
+
+// The digests of hold and list, each with the bytes behind it.
+pub fn outcome(hold: &[u8], list: &[u8], expected: &[u8]) -> Outcome {
+    if expected.len() < 8 {
+        return Outcome::Malformed;
+    }
+    outcome::both(
+        outcome_of(hold, &expected[0..8]),
+        outcome_of(list, &expected[8..]),
+    )
+}
+
+// The seeds of hold and list, and the digests of the bytes from them.
+pub fn begun(body: &[u8], hold: &mut [u8], list: &mut [u8]) -> Outcome {
+    if body.len() < 8 {
+        return Outcome::Malformed;
+    }
+    seeded::fill(numbers::of_four(body[0], body[1], body[2], body[3]), hold);
+    seeded::fill(numbers::of_four(body[4], body[5], body[6], body[7]), list);
+    outcome(hold, list, &body[8..])
+}
+
+// The digest of the list after some changes, and the changes.
+pub fn list_changed(body: &[u8], list: &mut [u8]) -> Outcome {
+    if body.len() < 8 {
+        return Outcome::Malformed;
+    }
+    lent_bytes::change(&body[8..], list);
+    outcome_of(list, &body[0..8])
+}
+
+// The first bytes of the hold or of the list, as many as are given.
+pub fn front_in_full(body: &[u8], bytes: &[u8]) -> Outcome {
+    let length = body.len();
+    if bytes.len() < length {
+        return Outcome::Malformed;
+    }
+    outcome::of(&bytes[0..length], body)
+}

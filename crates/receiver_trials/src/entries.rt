@@ -1,0 +1,50 @@
+// The kind of record that tries the reading of the list.
+use list::EntryAnswer;
+use vectors::digest;
+use vectors::numbers;
+use vectors::outcome;
+use vectors::outcome::Outcome;
+
+// What stands at a position: the refusal's number, 0 for none; 1 for a packet; its place, its length and the position after it, 8 bytes each.
+fn answer(number: u8, is_packet: u8, start: usize, length: usize, next: usize) -> [u8; 26] {
+    let mut answer = [0u8; 26];
+    answer[0] = number;
+    answer[1] = is_packet;
+    lent::write_at(&mut answer, 2, &numbers::eight_bytes(start as u64));
+    lent::write_at(&mut answer, 10, &numbers::eight_bytes(length as u64));
+    lent::write_at(&mut answer, 18, &numbers::eight_bytes(next as u64));
+    answer
+}
+
+fn entry_answer(found: EntryAnswer) -> [u8; 26] {
+    match found {
+        EntryAnswer::Packet {
+            start,
+            length,
+            next,
+        } => answer(0, 1, start, length, next),
+        EntryAnswer::End => answer(0, 0, 0, 0, 0),
+        EntryAnswer::Refused(number) => answer(number, 0, 0, 0, 0),
+    }
+}
+
+// How many bytes of the list's buffer are listed, the position; what stands there, and the digest of the packet, which is empty at an end or a refusal.
+pub fn read(body: &[u8], bytes: &[u8]) -> Outcome {
+    if body.len() < 36 {
+        return Outcome::Malformed;
+    }
+    let listed = numbers::of_two(body[0], body[1]) as usize;
+    if bytes.len() < listed {
+        return Outcome::Malformed;
+    }
+    let high = numbers::of_four(body[2], body[3], body[4], body[5]);
+    let low = numbers::of_four(body[6], body[7], body[8], body[9]);
+    let position = numbers::of_eight(high, low) as usize;
+    let list = &bytes[0..listed];
+    let found = entry_answer(list::entry(list, position));
+    let packet = numbers::eight_bytes(digest::of(list::packet(list, position)));
+    outcome::both(
+        outcome::of(&found, &body[10..36]),
+        outcome::of(&packet, &body[36..]),
+    )
+}

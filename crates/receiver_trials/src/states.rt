@@ -1,0 +1,76 @@
+// States and answers of the receiver as the vectors hold them. A state is 11 bytes: whether a frame is expected, its number 2 (0 for none), the bytes
+// held 8.
+ghost use Prim.Native.Nat.{_≤_};
+ghost use lib.ListN.{length};
+use header::Txfn;
+use header_trials::fields;
+use receiver::Expected;
+use receiver::ReceiveAnswer;
+use receiver::Receiver;
+use vectors::numbers;
+
+fn expected_of(is_expected: u8, high: u8, low: u8) -> Expected {
+    if is_expected == 0 {
+        return Expected::None;
+    }
+    Expected::Frame(Txfn(fields::number_of(high, low)))
+}
+
+// The state in the first 11 bytes.
+pub fn receiver(bytes: &[u8]) -> Receiver
+    requires { ⌜ 11 ≤ length (now bytes) ⌝ }
+{
+    let high = numbers::of_four(bytes[3], bytes[4], bytes[5], bytes[6]);
+    let low = numbers::of_four(bytes[7], bytes[8], bytes[9], bytes[10]);
+    let held = numbers::of_eight(high, low) as usize;
+    let expected = expected_of(bytes[0], bytes[1], bytes[2]);
+    Receiver { expected, held }
+}
+
+fn expected_bytes(expected: Expected) -> [u8; 3] {
+    match expected {
+        Expected::None => [0, 0, 0],
+        Expected::Frame(number) => {
+            let bytes = numbers::two_bytes(number.0);
+            [1, bytes[0], bytes[1]]
+        }
+    }
+}
+
+// The numbers of an answer: the frames missed 2, the packets 8, the bytes of the list 8, the state after the call.
+fn counts(missed: u16, packets: usize, listed: usize, receiver: Receiver) -> [u8; 29] {
+    let expected = receiver.expected;
+    let mut counts = [0u8; 29];
+    lent::write_at(&mut counts, 0, &numbers::two_bytes(missed));
+    lent::write_at(&mut counts, 2, &numbers::eight_bytes(packets as u64));
+    lent::write_at(&mut counts, 10, &numbers::eight_bytes(listed as u64));
+    lent::write_at(&mut counts, 18, &expected_bytes(expected));
+    lent::write_at(&mut counts, 21, &numbers::eight_bytes(receiver.held as u64));
+    counts
+}
+
+fn joined(head: &[u8; 25], counts: &[u8; 29]) -> [u8; 54] {
+    let mut answer = [0u8; 54];
+    lent::write_at(&mut answer, 0, head);
+    lent::write_at(&mut answer, 25, counts);
+    answer
+}
+
+// What receive answers: the refusal's number and no fields, or 0 and every field of the header; and the numbers. A refusal leaves the state that was given.
+pub fn answer(found: ReceiveAnswer, given: Receiver) -> [u8; 54] {
+    match found {
+        ReceiveAnswer::Received {
+            header,
+            missed,
+            packets,
+            listed,
+            receiver,
+        } => joined(
+            &fields::accepted(header),
+            &counts(missed, packets, listed, receiver),
+        ),
+        ReceiveAnswer::Refused(number) => {
+            joined(&fields::refused(number), &counts(0, 0, 0, given))
+        }
+    }
+}

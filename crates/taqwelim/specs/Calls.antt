@@ -1,0 +1,43 @@
+-- The outcome of each call for C, for all inputs: it is the outcome of one call of the library, on what C's numbers stand for, and C gets that call's
+-- answer as numbers.
+use mathlib.Core.Path.{_≡_}
+use mathlib.Core.List.{List}
+use Prim.Native.Nat.{ℕ}
+use Rattle.header.specs.Calls.{CodeHeaderOutcome, codeNumber}
+use Rattle.header.specs.declared.CodeAnswer.{CodeAnswer}
+use Rattle.receiver.specs.Receiving.{ReceiveOutcome}
+use Rattle.receiver.specs.declared.ReceiveAnswer.{ReceiveAnswer}
+use Rattle.sender.specs.Put.{PutOutcome}
+use Rattle.sender.specs.Next.{NextOutcome}
+use Rattle.sender.specs.declared.PutAnswer.{PutAnswer}
+use Rattle.sender.specs.declared.NextAnswer.{NextAnswer}
+use Rattle.flat.specs.Answers.{flatPut, flatNext, flatReceive}
+use Rattle.flat.specs.Headers.{fieldsOf, headerOf}
+use Rattle.flat.specs.States.{senderOf, receiverOf}
+use Rattle.flat.specs.declared.answers.FlatPut.{FlatPut}
+use Rattle.flat.specs.declared.answers.FlatNext.{FlatNext}
+use Rattle.flat.specs.declared.answers.FlatReceive.{FlatReceive}
+use Rattle.flat.specs.declared.headers.FlatFields.{FlatFields}
+use Rattle.flat.specs.declared.headers.FlatHeader.{FlatHeader}
+use Rattle.flat.specs.declared.states.FlatReceiver.{FlatReceiver}
+use Rattle.flat.specs.declared.states.FlatSender.{FlatSender}
+
+pub record PutCall (queue : List ℕ) (sender : FlatSender) (packet : List ℕ) (r : FlatPut) (after : List ℕ) : Type 0 where
+  pub answer : PutAnswer
+  pub outcome : PutOutcome queue (senderOf sender) packet answer after
+  pub flat : r ≡ flatPut sender answer
+
+pub record NextCall (taps : ℕ) (fields : FlatFields) (sender : FlatSender) (queue out : List ℕ) (r : FlatNext) (queue′ out′ : List ℕ) : Type 0 where
+  pub answer : NextAnswer
+  pub outcome : NextOutcome taps (fieldsOf fields) (senderOf sender) queue out answer queue′ out′
+  pub flat : r ≡ flatNext sender answer
+
+pub record ReceiveCall (taps : ℕ) (frame : List ℕ) (receiver : FlatReceiver) (hold list : List ℕ) (r : FlatReceive) (hold′ list′ : List ℕ) : Type 0 where
+  pub answer : ReceiveAnswer
+  pub outcome : ReceiveOutcome taps frame (receiverOf receiver) hold list answer hold′ list′
+  pub flat : r ≡ flatReceive receiver answer
+
+pub record CodeCall (header : FlatHeader) (before : List ℕ) (r : ℕ) (after : List ℕ) : Type 0 where
+  pub answer : CodeAnswer
+  pub outcome : CodeHeaderOutcome (headerOf header) before answer after
+  pub flat : r ≡ codeNumber answer

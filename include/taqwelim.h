@@ -1,0 +1,234 @@
+/* Taqwelim: packets through the frames of a laser link, for C and C++.
+ *
+ * The library is proved: every call here is one call of a proved library, does the same for all inputs, and has a
+ * contract that says so (docs/CONTRACTS.md). Link with libtaqwelim.a, which `rt staticlib taqwelim` writes (x86-64
+ * Linux). It allocates nothing, keeps nothing between calls and needs no other library.
+ *
+ * How to use it
+ *   A state is a small struct, given by value and handed back in the answer. Packets, frames and lists are bytes that
+ *   you lend for the time of the call: a pointer, then the length.
+ *
+ *     uint8_t queue[TAQWELIM_QUEUE_SIZE], frame[TAQWELIM_FRAME_SIZE];
+ *     taqwelim_sender sender = taqwelim_fresh_sender();
+ *     taqwelim_fields fields = {0};
+ *     fields.message.opcode = TAQWELIM_ABSENT;
+ *
+ *     taqwelim_put_answer put = taqwelim_put(queue, sizeof queue, sender, packet, packet_length);
+ *     sender = put.sender;
+ *     taqwelim_next_answer next = taqwelim_next_frame(TAQWELIM_TAPS_0_AND_3, fields, sender, queue, sizeof queue,
+ *                                                     frame, sizeof frame);
+ *     sender = next.sender;
+ *
+ * Refusals
+ *   Every answer has a refusal's number, 0 for none. A refused call changes no byte that you lent, and hands back the
+ *   state that you gave; every other number of its answer is 0. Where several numbers apply, the lowest is given. Each
+ *   call below says which numbers it may give; it gives no other.
+ *
+ * What you owe
+ *   A pointer with a length above 0 points to that many bytes, which nobody else reads or writes during the call; bytes
+ *   that a call may write (`uint8_t *`) overlap no other bytes of the same call. A null pointer is allowed where the
+ *   length is 0. That is all: no number, state or byte that you give makes a call undefined. Calls on bytes that do not
+ *   overlap may run at the same time. */
+#ifndef TAQWELIM_H
+#define TAQWELIM_H
+
+#include <stddef.h>
+#include <stdint.h>
+
+#ifdef __cplusplus
+extern "C" {
+#endif
+
+/* ---- sizes, in bytes */
+#define TAQWELIM_FRAME_SIZE 2081   /* a frame on the wire */
+#define TAQWELIM_HEADER_SIZE 16    /* a bare header */
+#define TAQWELIM_PACKET_MOST 9000  /* the longest packet; the shortest is 1 */
+#define TAQWELIM_QUEUE_SIZE 32768  /* the queue, exactly */
+#define TAQWELIM_HOLD_SIZE 9000    /* the hold, exactly */
+#define TAQWELIM_LIST_LEAST 10907  /* the list, at least */
+
+/* ---- taps: bit i is tap i; below 2^25, with tap 0 set */
+#define TAQWELIM_TAPS_0_AND_3 UINT32_C(9)
+
+/* ---- a refusal's number */
+enum taqwelim_refusal {
+    TAQWELIM_NOT_REFUSED = 0,
+    TAQWELIM_TAPS = 1,          /* taps at or above 2^25, or tap 0 clear */
+    TAQWELIM_LENGTH = 2,        /* a frame, a bare header or a lent buffer of the wrong length */
+    TAQWELIM_STATE = 3,         /* the queue is not whole with this state, or a receiver's state is none */
+    TAQWELIM_PACKET = 4,        /* a packet of 0 or above 9,000 bytes */
+    TAQWELIM_FULL = 5,          /* no room in the queue: used + 2 + length is above 32,768 */
+    TAQWELIM_FIELD = 6,         /* a field to send is too large for its bits or against its rule */
+    TAQWELIM_PREAMBLE = 7,      /* the preamble differs */
+    TAQWELIM_HEADER_CODE = 8,   /* the coded header is no codeword */
+    TAQWELIM_HEADER_CRC = 9,    /* the CRC-16 differs */
+    TAQWELIM_RESERVED_BIT = 10, /* a reserved bit is 0 */
+    TAQWELIM_FIELD_RULE = 11,   /* a received field is against its rule */
+    TAQWELIM_PAYLOAD_CODE = 12, /* one of the eight payload words is no codeword */
+    TAQWELIM_PAYLOAD_CRC = 13,  /* the CRC-32 differs */
+    TAQWELIM_PACKING = 14,      /* a DATA area against the packing rules */
+    TAQWELIM_TOO_LONG = 15,     /* a held part and the record that continues it pass a packet's length */
+    TAQWELIM_LIST_ENTRY = 16    /* a list position past its end, or an entry that is none */
+};
+
+/* ---- the kind of a frame */
+enum taqwelim_kind { TAQWELIM_IDLE = 0, TAQWELIM_DATA = 1, TAQWELIM_TYPE2 = 2, TAQWELIM_TYPE3 = 3 };
+
+/* ---- the opcodes of the fast channel, each with the numbers that its message has (first, second, third) and their
+ *      greatest values; 7 to 14 are reserved, and have none */
+enum taqwelim_opcode {
+    TAQWELIM_CRC_ERRORS = 0,       /* errors 65535 */
+    TAQWELIM_RECEIVED_POWER = 1,   /* power 16383, lock 1 */
+    TAQWELIM_POWER_STATISTICS = 2, /* mean 255, deviation 255 */
+    TAQWELIM_SYNC_LOSSES = 3,      /* losses 16383, lock 1 */
+    TAQWELIM_POWER_RANGE = 4,      /* least 255, greatest 255 */
+    TAQWELIM_VERSION = 5,          /* major 31, minor 31, patch 63 */
+    TAQWELIM_CORRECTED_FRAMES = 6, /* frames 65535 */
+    TAQWELIM_ABSENT = 15           /* none */
+};
+
+/* A message of the fast channel. A number that the message does not have is 0; otherwise it is refused (6). */
+typedef struct taqwelim_message {
+    uint8_t opcode; /* 0 to 15 */
+    uint16_t first;
+    uint16_t second;
+    uint16_t third;
+} taqwelim_message;
+
+/* The fields of a header that a caller gives for a frame. */
+typedef struct taqwelim_fields {
+    uint64_t stamp;  /* TX_TS, below 2^40 */
+    uint16_t rxfn;   /* RXFN, the far end's count; 0 where valid is 0 */
+    uint8_t ack;     /* ACK, 0 or 1 */
+    uint8_t valid;   /* ACK-valid, 0 or 1 */
+    uint8_t seconds; /* TOD_SECONDS, 0 to 63 */
+    uint8_t applies; /* TS-applies, 0 to 7 */
+    taqwelim_message message;
+} taqwelim_fields;
+
+/* A whole header: TXFN and the kind stand beside the fields. */
+typedef struct taqwelim_header {
+    taqwelim_fields fields;
+    uint16_t txfn;
+    uint8_t kind; /* 0 to 3 */
+} taqwelim_header;
+
+/* The sender's state: how many bytes of the queue are used, and the TXFN of the next frame. */
+typedef struct taqwelim_sender {
+    size_t used;
+    uint16_t next;
+} taqwelim_sender;
+
+/* The receiver's state: how many bytes of the hold are held, at most 8,999, and the TXFN that the next frame should
+ * have, where expects is 1. Before the first frame expects is 0, and expected is 0. Other numbers are no state (3). */
+typedef struct taqwelim_receiver {
+    size_t held;
+    uint16_t expected;
+    uint8_t expects; /* 0 or 1 */
+} taqwelim_receiver;
+
+/* ---- sending */
+
+/* The state to begin with: nothing waits, and the first frame is frame 0. All zeros. */
+taqwelim_sender taqwelim_fresh_sender(void);
+
+typedef struct taqwelim_put_answer {
+    taqwelim_sender sender; /* with the packet's 2 + length bytes used */
+    uint8_t refusal;
+} taqwelim_put_answer;
+
+/* Puts a packet of 1 to 9,000 bytes behind those that wait.
+ * Writes a mark of two bytes and the packet from queue[sender.used] on, and touches nothing else of the queue.
+ * Refuses: 2 queue_length is not 32,768; 3 the queue is not whole; 4 the packet's length; 5 no room. */
+taqwelim_put_answer taqwelim_put(uint8_t *queue, size_t queue_length, taqwelim_sender sender, const uint8_t *packet,
+                                 size_t packet_length);
+
+typedef struct taqwelim_next_answer {
+    taqwelim_sender sender; /* what still waits, and the TXFN after this frame's */
+    uint8_t kind;           /* TAQWELIM_IDLE where nothing waited, otherwise TAQWELIM_DATA */
+    uint8_t refusal;
+} taqwelim_next_answer;
+
+/* Builds the next frame at the front of out: the fields given, the sender's TXFN, and as much of the waiting packets as
+ * fits. What still waits moves to the front of the queue; the queue's bytes past the new used count, and those of out
+ * past the 2,081, keep their values.
+ * Refuses: 1 the taps; 2 queue_length is not 32,768, or out_length is under 2,081; 3 the queue is not whole; 6 a field,
+ * for an IDLE frame too. */
+taqwelim_next_answer taqwelim_next_frame(uint32_t taps, taqwelim_fields fields, taqwelim_sender sender, uint8_t *queue,
+                                         size_t queue_length, uint8_t *out, size_t out_length);
+
+/* ---- receiving */
+
+/* The state to begin with: no number is expected, and nothing is held. All zeros. */
+taqwelim_receiver taqwelim_fresh_receiver(void);
+
+typedef struct taqwelim_receive_answer {
+    taqwelim_header header;     /* the frame's */
+    taqwelim_receiver receiver; /* expects the number after the frame's */
+    size_t packets;             /* packets in the list */
+    size_t listed;              /* bytes of the list that hold them */
+    uint16_t missed;            /* frames missing before this one, modulo 65,536; 0 for the first frame */
+    uint8_t refusal;
+} taqwelim_receive_answer;
+
+/* Receives a frame of 2,081 bytes. The packets that it completes are written to the list from its byte 0 on, to be read
+ * by taqwelim_entry over exactly `listed` bytes; the begun part of a packet is kept at the front of the hold. All other
+ * bytes of both keep their values. A refused frame leaves everything as it was, the number expected too: it will count
+ * as missing.
+ * Refuses: 1 the taps; 2 frame_length is not 2,081, hold_length not 9,000, or list_length under 10,907; 3 the state;
+ * 7 to 15 what the frame holds. */
+taqwelim_receive_answer taqwelim_receive(uint32_t taps, const uint8_t *frame, size_t frame_length,
+                                         taqwelim_receiver receiver, uint8_t *hold, size_t hold_length, uint8_t *list,
+                                         size_t list_length);
+
+typedef struct taqwelim_entry_answer {
+    size_t start;  /* the packet is list[start] to list[start + length - 1], */
+    size_t length; /* in the list that you gave */
+    size_t next;   /* the position after it */
+    uint8_t found; /* 1 for a packet; 0 at the end of the list, and for a refusal */
+    uint8_t refusal;
+} taqwelim_entry_answer;
+
+/* What stands at a position of a list, 0 being the first. list_length is `listed` of the answer that wrote it. Where the
+ * position is the list's end, found is 0 and refusal is 0. Changes nothing.
+ * Refuses: 16 the position is past the end, or its entry is none.
+ *
+ *     taqwelim_entry_answer entry = taqwelim_entry(list, listed, 0);
+ *     while (entry.found) {
+ *         use(list + entry.start, entry.length);
+ *         entry = taqwelim_entry(list, listed, entry.next);
+ *     } */
+taqwelim_entry_answer taqwelim_entry(const uint8_t *list, size_t list_length, size_t position);
+
+typedef struct taqwelim_place {
+    size_t start;
+    size_t length;
+} taqwelim_place;
+
+/* The place of the packet at a position, alone: start and length of taqwelim_entry, both 0 at an end or a refusal.
+ * Changes nothing, and gives no number. */
+taqwelim_place taqwelim_packet(const uint8_t *list, size_t list_length, size_t position);
+
+/* ---- bare headers, and the level */
+
+/* Codes a header, with any TXFN and of any kind, into exactly 16 bytes. Gives the refusal's number, 0 for none.
+ * Refuses: 2 out_length is not 16; 6 a field, or a kind above 3. */
+uint8_t taqwelim_code_header(taqwelim_header header, uint8_t *out, size_t out_length);
+
+typedef struct taqwelim_read_answer {
+    taqwelim_header header;
+    uint8_t refusal;
+} taqwelim_read_answer;
+
+/* Reads a header from exactly 16 bytes. Changes nothing.
+ * Refuses: 2 length is not 16; 9 the CRC-16; 10 a reserved bit; 11 a field. */
+taqwelim_read_answer taqwelim_read_header(const uint8_t *bytes, size_t length);
+
+/* The level that a code stands for, in hundred-thousandths of a dBm/m2: -25,086 times the code. Refuses nothing. */
+int32_t taqwelim_level(uint8_t code);
+
+#ifdef __cplusplus
+}
+#endif
+
+#endif

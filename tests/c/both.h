@@ -1,0 +1,47 @@
+/* Every call, made of the library and of the model at once: the two answers and every lent byte, with those around it, are compared after each. */
+#ifndef BOTH_H
+#define BOTH_H
+
+#include "model.h"
+
+#define AROUND 64 /* bytes before and behind what is lent */
+#define ROOM 33000
+
+/* Bytes to lend, twice: those that the library gets and those that the model gets. They hold the same before each call, and should after it. */
+typedef struct {
+    uint8_t library[AROUND + ROOM + AROUND];
+    uint8_t model[AROUND + ROOM + AROUND];
+} lent;
+
+extern lent queue, packet, out, frame, hold, list, header_bytes;
+
+/* ---- counts */
+extern unsigned long calls, comparisons, differences, given[17]; /* given: calls that ended with each number */
+
+void expect(int same, const char *what);
+
+/* ---- what is lent */
+uint8_t *bytes_of(lent *buffer);                                  /* the library's, to look at */
+void set_bytes(lent *buffer, size_t at, const void *from, size_t length);
+void set_byte(lent *buffer, size_t at, uint8_t value);
+void fill_all(void);                                              /* with bytes at random, and around them */
+
+/* ---- bytes and numbers at random, the same in each run */
+uint64_t chance(void);
+size_t below(size_t bound);                                       /* 0 to bound - 1 */
+
+/* ---- the calls; a state is replaced by the answer's. Each gives the refusal's number. */
+uint8_t both_put(size_t queue_length, taqwelim_sender *sender, size_t packet_length);
+uint8_t both_next(uint32_t taps, taqwelim_fields fields, taqwelim_sender *sender, size_t queue_length, size_t out_length);
+uint8_t both_receive(uint32_t taps, size_t frame_length, taqwelim_receiver *receiver, size_t hold_length, size_t list_length, taqwelim_receive_answer *answer);
+uint8_t both_entry(size_t list_length, size_t position, taqwelim_entry_answer *answer);
+uint8_t both_code(taqwelim_header header, size_t length);
+uint8_t both_read(size_t length, taqwelim_header *header);
+
+/* ---- the tests */
+void try_numbers(void);
+void try_refusals(void);
+void try_session(unsigned long frames);
+void try_chance(unsigned long rounds);
+
+#endif

@@ -1,0 +1,43 @@
+/* A plain model of every call, written from the papers and sharing nothing with the library but the header's types: each
+ * call does to its buffers and answers what the call of the same name should. It goes bit by bit where the papers do. */
+#ifndef MODEL_H
+#define MODEL_H
+
+#include "../../include/taqwelim.h"
+
+#define AREA 1908          /* a frame's area, */
+#define DATA (AREA + 4)    /* and with its CRC-32 behind it */
+#define RECORD_FIRST 0x8000
+#define RECORD_LAST 0x4000
+
+/* ---- codes (model_codes.c) */
+uint32_t model_crc(int bits, uint32_t polynomial, const uint8_t *bytes, size_t length);
+uint16_t model_crc_16(const uint8_t *bytes, size_t length);
+uint32_t model_crc_32(const uint8_t *bytes, size_t length);
+uint8_t model_power(unsigned exponent);
+void model_parity(const uint8_t *data, size_t length, size_t step, uint8_t *parity);
+int model_is_codeword(const uint8_t *data, size_t length, const uint8_t *parity, size_t step);
+void model_scramble(uint32_t taps, uint8_t *bytes, size_t length);
+int model_taps_allowed(uint32_t taps);
+
+/* ---- headers and frames (model_frames.c) */
+int model_fields_fit(taqwelim_fields fields);
+void model_header_bytes(taqwelim_header header, uint8_t *bytes);
+uint8_t model_header_refusal(const uint8_t *bytes);
+taqwelim_header model_header_of(const uint8_t *bytes);
+void model_seal_header(uint8_t *bytes);
+void model_frame(uint32_t taps, const uint8_t *header, const uint8_t *data, uint8_t *frame);
+void model_data(const uint8_t *area, uint8_t *data);
+uint8_t model_open(uint32_t taps, const uint8_t *frame, uint8_t *header, uint8_t *area);
+
+/* ---- the calls (model_link.c) */
+taqwelim_put_answer model_put(uint8_t *queue, size_t queue_length, taqwelim_sender sender, const uint8_t *packet, size_t packet_length);
+taqwelim_next_answer model_next_frame(uint32_t taps, taqwelim_fields fields, taqwelim_sender sender, uint8_t *queue, size_t queue_length, uint8_t *out,
+                                      size_t out_length);
+taqwelim_receive_answer model_receive(uint32_t taps, const uint8_t *frame, size_t frame_length, taqwelim_receiver receiver, uint8_t *hold, size_t hold_length,
+                                      uint8_t *list, size_t list_length);
+taqwelim_entry_answer model_entry(const uint8_t *list, size_t list_length, size_t position);
+uint8_t model_code_header(taqwelim_header header, uint8_t *out, size_t out_length);
+taqwelim_read_answer model_read_header(const uint8_t *bytes, size_t length);
+
+#endif

@@ -1,0 +1,102 @@
+"""A session with the second coder's receiver, and the records of its calls.
+
+    21  hold and list begun  their seeds 4 and 4; the digests of hold and list
+    22  frame received       taps 4, the state, the lengths of frame, hold and list 2 each; the answer, the digests of
+                             hold and list; changes to the frame at hand, which then arrives
+    23  list changed         the digest of the list after the changes, the changes
+    24  list read            how many bytes are listed 2, the position 8; what stands there, the digest of the packet
+    25  list in full         bytes: the list begins with these
+    26  hold in full         bytes: the hold begins with these
+
+A state is whether a frame is expected, its number 2, 0 for none, and the bytes held 8. An answer is the refusal's
+number, 0 for none, the fields of the header, all 0 where it is refused, the frames missed 2, the packets 8, the bytes
+of the list 8, and the state after the call. What stands at a position of the list is the refusal's number, 1 for a
+packet and 0 for none, its place, its length and the position after it, 8 each.
+
+Hold and list stay from record to record. They are 9,000 and 10,907 bytes, and 12 and 13 more behind them; a digest is
+of all of them, whatever part a call was lent. The frame at hand is that of frame_vectors.py or of sender_session.py.
+"""
+
+from coder import receiver
+from header_vectors import fields
+from records import changes, record
+from sender_session import digest, seeded
+
+HOLD = receiver.HOLD
+LIST = receiver.LIST_OUTPUT
+
+
+def state(given):
+    expected = [0, 0] if given.expected is None else [1, given.expected]
+    return bytes([expected[0]]) + expected[1].to_bytes(2, "big") + given.held.to_bytes(8, "big")
+
+
+def numbers_of(*given):
+    return b"".join(number.to_bytes(8, "big") for number in given)
+
+
+def answer_of(number, answer, after):
+    if answer is None:
+        return bytes([number]) + bytes(24 + 2 + 16) + state(after)
+    counts = answer.missed.to_bytes(2, "big") + numbers_of(answer.packets, answer.listed)
+    return bytes([number]) + fields(answer.header) + counts + state(after)
+
+
+class Arrivals:
+    """The state, the hold and the list of the second coder's receiver. A call answers with its record, and holds its
+    number to the one that is meant."""
+
+    def __init__(self, numbers):
+        self.seeds = [numbers.next(), numbers.next()]
+        self.receiver = receiver.FRESH
+        self.hold = seeded(self.seeds[0], HOLD + 12)
+        self.list = seeded(self.seeds[1], LIST + 13)
+        self.answer = None
+
+    def begun(self):
+        seeds = b"".join(seed.to_bytes(4, "big") for seed in self.seeds)
+        return record(21, seeds, digest(self.hold), digest(self.list))
+
+    def receive(self, taps, at_hand, frame, number=0, given=None, hold=HOLD, listed=LIST):
+        """A frame arrives, stored by its differences from the one at hand; with the session's own state or another."""
+        given = self.receiver if given is None else given
+        called = receiver.receive(taps, frame, given, self.hold[:hold], self.list[:listed])
+        found, self.answer, after, hold_after, list_after = called
+        assert found == number, (found, number, given)
+        self.hold = hold_after + self.hold[hold:]
+        self.list = list_after + self.list[listed:]
+        if found == 0:
+            self.receiver = after
+        sizes = b"".join(length.to_bytes(2, "big") for length in [len(frame), hold, listed])
+        answer = answer_of(found, self.answer, after)
+        digests = digest(self.hold) + digest(self.list)
+        return record(22, taps.to_bytes(4, "big"), state(given), sizes, answer, digests, changes(at_hand, frame))
+
+    def change_list(self, front):
+        before, self.list = self.list, front + self.list[len(front) :]
+        return record(23, digest(self.list), changes(before, self.list))
+
+    def read(self, listed, position, number=0):
+        """What stands at a position of the first bytes of the list."""
+        found, start, length, behind = receiver.entry(self.list[:listed], position)
+        assert found == number, (found, number, listed, position)
+        packet = receiver.packet(self.list[:listed], position)
+        place = numbers_of(0, 0, 0) if start is None else numbers_of(start, length, behind)
+        where = listed.to_bytes(2, "big") + position.to_bytes(8, "big")
+        return record(24, where, bytes([found, start is not None]), place, digest(packet))
+
+    def read_all(self):
+        """Every packet of the last frame, and the end."""
+        listed = self.answer.listed
+        position = 0
+        for packet in receiver.packets_of(self.list[:listed]):
+            yield self.read(listed, position)
+            position += 2 + len(packet)
+        assert position == listed
+        yield self.read(listed, position)
+
+    def list_in_full(self):
+        return record(25, self.list[: self.answer.listed])
+
+    def hold_in_full(self):
+        return record(26, self.hold[: self.receiver.held])
