@@ -86,7 +86,7 @@ def example(bench):
 
 
 def whole_packets(bench):
-    """Short ones, several in a frame, long ones over up to six frames, and an IDLE behind them."""
+    """Short ones, several in a frame, long ones over up to five frames, and an IDLE behind them."""
     bench.put(1, 2, 1903, 1906, 1907, 9000, 3, 40)
     bench.arrive_all()
     bench.arrive()

@@ -39,7 +39,7 @@ fn next_listed(
     }
 }
 
-// A proved loop has to end, and nothing says that the input does: it ends with the places, of which there are 2^64.
+// A proved loop has to end, and nothing says that the input does: this one ends where the place has no number any more, after 2^64 - 1 frames.
 fn list_all(frame: &mut [u8], hold: &mut [u8], list: &mut [u8]) {
     let mut receiver = Receiver::fresh();
     let mut place: u64 = 0;
