@@ -17,7 +17,8 @@ pub entry-one : (list : List ℕ) (position : ℕ) (r₁ r₂ : EntryAnswer) →
 entry-one list position r₁ r₂ x y = x ∙ sym y
 
 pub packet-one : (list : List ℕ) (from : ℕ × ℕ) (position : ℕ) (part₁ part₂ : List ℕ) (at₁ at₂ : ℕ × ℕ)
-    → PacketOutcome list from position part₁ at₁ → PacketOutcome list from position part₂ at₂ → (part₁ ≡ part₂) × (at₁ .0 ≡ at₂ .0) × (at₁ .1 ≡ at₂ .1)
+    → PacketOutcome list from position part₁ at₁ → PacketOutcome list from position part₂ at₂
+    → (part₁ ≡ part₂) × (at₁ .0 ≡ at₂ .0) × (at₁ .1 ≡ at₂ .1)
 packet-one list from position part₁ part₂ at₁ at₂ x y =
     (x .bytes ∙ sym (y .bytes), x .block ∙ sym (y .block), x .place ∙ sym (y .place))
 

@@ -1,4 +1,5 @@
--- The length of the packet at a position, as the code finds it: there is no room for a mark; the mark is no length; it is one, and the packet stands inside the list.
+-- The length of the packet at a position, as the code finds it: there is no room for a mark; the mark is no length; it is one, and the
+-- packet stands inside the list.
 use mathlib.Core.Path.{_≡_, sym, ap, _∙_}
 use mathlib.Core.Bool.{Bool, true, false, _&&_, and-false}
 use mathlib.Core.List.{List}

@@ -1,5 +1,5 @@
--- Reading the list of packets received (01, "Reading the list"), from a position and for all inputs. An entry is a two-byte length, high byte first, and the packet.
--- `entry` answers by numbers, `packet` hands back the packet's bytes.
+-- Reading the list of packets received (01, "Reading the list"), from a position and for all inputs. An entry is a two-byte length, high
+-- byte first, and the packet. `entry` answers by numbers, `packet` hands back the packet's bytes.
 use mathlib.Core.Path.{_≡_}
 use mathlib.Core.Bool.{cond}
 use mathlib.Core.Option.{Option, none, some}

@@ -31,7 +31,8 @@ returns-3 c =
     let at-mark-at = c .before .before .mark-at in
     let at-is-length = c .before .is-length in
     let at-if3 = c .if3 in
-    (no-length (at-args .list .now) (at-args .position) (omega arith) _ (at-mark-at .ensures) _ (at-is-length .ensures) (not-true _ (at-if3 .taken)), λ ne. absurd (ne refl))
+    let none = no-length (at-args .list .now) (at-args .position) (omega arith) _ (at-mark-at .ensures) _ (at-is-length .ensures) in
+    (none (not-true _ (at-if3 .taken)), λ ne. absurd (ne refl))
 
 returns-4 : tie.Need-returns-4
 returns-4 c =
@@ -39,7 +40,10 @@ returns-4 c =
     let at-args = c .before .before .before .before .before .before .args in
     let at-mark-at = c .before .before .mark-at in
     let at-is-length = c .before .is-length in
-    let found = not-false _ (at-if3 .left) in (is-length (at-args .list .now) (at-args .position) (omega arith) _ (at-mark-at .ensures) _ (at-is-length .ensures) found, λ ne. inside (at-args .list .now) (at-args .position) (omega arith) _ (at-mark-at .ensures) _ (at-is-length .ensures) found)
+    let list = at-args .list .now in
+    let found = not-false _ (at-if3 .left) in
+    let one = is-length list (at-args .position) (omega arith) _ (at-mark-at .ensures) _ (at-is-length .ensures) found in
+    (one, λ ne. inside list (at-args .position) (omega arith) _ (at-mark-at .ensures) _ (at-is-length .ensures) found)
 
 pub length-at-spec : {M : Type 1} → statement M
 length-at-spec =

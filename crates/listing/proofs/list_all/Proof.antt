@@ -6,7 +6,8 @@ use Rattle.listing.proofs.list_all.Statement.{statement}
 use Rattle.listing.proofs.list_all.Tie as tie
 
 abbrev Inv-loop : tie.InvT-loop
-Inv-loop frame₀ hold₀ list₀ receiver₀ place₀ frame hold list receiver place = (length frame ≡ length frame₀) × (length hold ≡ length hold₀) × (length list ≡ length list₀)
+Inv-loop frame₀ hold₀ list₀ receiver₀ place₀ frame hold list receiver place =
+    (length frame ≡ length frame₀) × (length hold ≡ length hold₀) × (length list ≡ length list₀)
 
 abbrev μ-loop : tie.MeasureT-loop
 μ-loop frame₀ hold₀ list₀ receiver₀ place₀ frame hold list receiver place = 18446744073709551615 - place
@@ -51,7 +52,8 @@ loop-again : tie.Need-loop-again Inv-loop μ-loop
 loop-again c =
     let at-next-listed = c .before .before .before .before .before .before .before .before .before .next-listed in
     let at-loop = c .before .before .before .before .before .before .before .before .before .before .before .before .before .before .loop in
-    ((at-next-listed .kept .1 .1 .0) ∙ (at-loop .inv .0), (at-next-listed .kept .1 .1 .1 .0) ∙ (at-loop .inv .1), (at-next-listed .kept .1 .1 .1 .1 .0) ∙ (at-loop .inv .2))
+    let kept = at-next-listed .kept .1 .1 in
+    (kept .0 ∙ (at-loop .inv .0), kept .1 .0 ∙ (at-loop .inv .1), kept .1 .1 .0 ∙ (at-loop .inv .2))
 
 same-length-4 : tie.Need-same-length-4 Inv-loop μ-loop
 same-length-4 c =

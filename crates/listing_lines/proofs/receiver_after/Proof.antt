@@ -14,7 +14,9 @@ returns c =
     rw (at-answer .given .1)
 
 returns-2 : tie.Need-returns-2
-returns-2 c = search needs
+returns-2 c =
+    let at-enum-told = c .enum-told in
+    rw (at-enum-told .given .1)
 
 pub receiver-after-spec : {M : Type 1} → statement M
 receiver-after-spec = tie.close (tie.spec enum-known-answer enum-told returns returns-2)

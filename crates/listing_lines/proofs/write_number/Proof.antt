@@ -27,7 +27,8 @@ returns c =
     let at-args = c .before .before .before .before .before .before .before .before .args in
     let at-decimal = c .before .before .before .before .before .decimal in
     let at-write-word = c .before .before .write-word in
-    number-written (at-args .out .now) (at-args .at) (at-decimal .result) (at-args .number) (at-args .behind) _ _ _ (omega arith) (at-decimal .ensures .0 .1) (at-decimal .ensures .1 .0) (at-decimal .ensures .1 .1) (at-write-word .ensures .0) (at-write-word .ensures .1)
+    let digits = number-written (at-args .out .now) (at-args .at) (at-decimal .result) (at-args .number) (at-args .behind) _ _ _ (omega arith) in
+    digits (at-decimal .ensures .0 .1) (at-decimal .ensures .1 .0) (at-decimal .ensures .1 .1) (at-write-word .ensures .0) (at-write-word .ensures .1)
 
 pub write-number-spec : {M : Type 1} → statement M
 write-number-spec =

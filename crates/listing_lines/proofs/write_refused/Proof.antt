@@ -22,12 +22,23 @@ same-length c = search needs
 
 returns : tie.Need-returns
 returns c =
-    let at-args = c .before .before .before .before .before .before .before .before .before .before .before .before .before .before .args in
-    let at-write-number = c .before .before .before .before .before .before .before .before .before .before .before .write-number in
-    let at-write-word = c .before .before .before .before .before .before .write-word in
-    let at-pre = c .before .before .before .before .before .before .before .before .before .before .before .before .before .before .pre in
     let at-write-number2 = c .before .before .write-number2 in
-    let word1 = first-word (at-args .out .now) (decimal (at-args .place)) 32 (at-write-number .last .0) (at-write-number .result) (at-write-number .ensures .1) (at-write-number .ensures .0 .0) in let word2 = next-word (at-args .out .now) (ascii "refused") 32 _ _ (at-write-word .last .0) _ (at-write-word .result) word1 (omega (arith, at-pre, (at-write-number .ensures .0 .0), (at-write-number .ensures .0 .1), (at-write-word .ensures .0))) (at-write-word .ensures .1) (at-write-word .ensures .0) in let word3 = next-word (at-args .out .now) (decimal (at-args .number)) 10 _ _ (at-write-number2 .last .0) _ (at-write-number2 .result) word2 (omega (arith, at-pre, (at-write-number .ensures .0 .0), (at-write-number .ensures .0 .1), (at-write-word .ensures .0), (at-write-number2 .ensures .0 .0), (at-write-number2 .ensures .0 .1))) (at-write-number2 .ensures .1) (at-write-number2 .ensures .0 .0) in let line = whole-line (at-args .out .now) _ _ _ _ word3 (refused-words (at-args .place) (at-args .number)) in ((line .0, (omega (arith, at-pre, (at-write-number .ensures .0 .0), (at-write-number .ensures .0 .1), (at-write-word .ensures .0), (at-write-number2 .ensures .0 .0), (at-write-number2 .ensures .0 .1)))), line .1)
+    let c1 = c .before .before .before .before .before .before in
+    let at-write-word = c1 .write-word in
+    let c0 = c1 .before .before .before .before .before in
+    let at-write-number = c0 .write-number in
+    let start = c0 .before .before .before in
+    let at-args = start .args in
+    let out = at-args .out .now in
+    let room = start .pre in
+    let end1 = at-write-number .ensures .0 in
+    let end2 = at-write-word .ensures .0 in
+    let end3 = at-write-number2 .ensures .0 in
+    let word1 = first-word out (decimal (at-args .place)) 32 _ _ (at-write-number .ensures .1) (end1 .0) in
+    let word2 = next-word out (ascii "refused") 32 _ _ _ _ _ word1 (omega arith) (at-write-word .ensures .1) end2 in
+    let word3 = next-word out (decimal (at-args .number)) 10 _ _ _ _ _ word2 (omega arith) (at-write-number2 .ensures .1) (end3 .0) in
+    let line = whole-line out _ _ _ _ word3 (refused-words (at-args .place) (at-args .number)) in
+    ((line .0, omega arith), line .1)
 
 pub write-refused-spec : {M : Type 1} → statement M
 write-refused-spec =

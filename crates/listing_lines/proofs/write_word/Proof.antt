@@ -32,7 +32,10 @@ returns c =
     let at-write-at2 = c .before .before .write-at2 in
     let at-args = c .before .before .before .before .before .before .before .before .before .before .before .args in
     let at-write-at = c .before .before .before .before .before .before .before .write-at in
-    (refl, (at-write-at2 .ensures) ∙ ap (λ (l : List ℕ). written l ((at-args .at) + length (at-args .word .now)) ((at-args .behind) ∷ [])) (at-write-at .ensures) ∙ written-append (at-args .out .now) (at-args .at) (at-args .word .now) ((at-args .behind) ∷ []) (omega arith))
+    let word = at-args .word .now in
+    let last = at-args .behind ∷ [] in
+    let before = ap (λ (l : List ℕ). written l (at-args .at + length word) last) (at-write-at .ensures) in
+    (refl, at-write-at2 .ensures ∙ before ∙ written-append (at-args .out .now) (at-args .at) word last (omega arith))
 
 pub write-word-spec : {M : Type 1} → statement M
 write-word-spec =
