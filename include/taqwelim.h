@@ -2,7 +2,7 @@
  *
  * The library is proved: every call here is one call of a proved library, does the same for all inputs, and has a
  * contract that says so (docs/CONTRACTS.md). Link with libtaqwelim.a, which `rt staticlib taqwelim` writes (x86-64
- * Linux). It allocates nothing, keeps nothing between calls and needs no other library.
+ * Linux). It allocates nothing, keeps nothing between calls, and needs memcpy and memset of the C library only.
  *
  * How to use it
  *   A state is a small struct, given by value and handed back in the answer. Packets, frames and lists are bytes that
