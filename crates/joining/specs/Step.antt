@@ -1,4 +1,4 @@
--- What one record does to the held part, the hold's bytes and the list: the contracts of the functions that join it.
+-- What the code does with one record, to the held part, the hold's bytes and the list: the contracts of the private functions that join it. `Joining` says what a frame's records do.
 use mathlib.Core.Path.{_≡_}
 use mathlib.Core.Bool.{Bool, true, false}
 use mathlib.Core.List.{List, [], _∷_, _++_}
