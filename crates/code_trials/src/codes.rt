@@ -62,7 +62,7 @@ pub fn payload_coded(body: &mut [u8]) -> Outcome {
     if body.len() < 2040 {
         return Outcome::Malformed;
     }
-    reed_solomon::write_parity(&mut body[0..2040]);
+    interleaving::write_parity(&mut body[0..2040]);
     outcome::of(&body[0..2040], &body[2040..])
 }
 
@@ -72,7 +72,7 @@ pub fn payload_judged(body: &[u8]) -> Outcome {
         return Outcome::Malformed;
     }
     let end = body.len() - 1;
-    let found = [reed_solomon::are_codewords(&body[0..end]) as u8];
+    let found = [interleaving::are_codewords(&body[0..end]) as u8];
     outcome::of(&found, &body[end..])
 }
 

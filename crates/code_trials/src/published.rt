@@ -84,7 +84,7 @@ fn generator_of_powers() -> [u8; 17] {
 }
 
 fn generators(count: Count) -> Count {
-    let found = reed_solomon::generator();
+    let found = reed_solomon::register::generator();
     let published = GENERATOR;
     let powers = generator_of_powers();
     count

@@ -10,7 +10,7 @@ use lib.ListN.{length, take, drop}
 use Rattle.basics.specs.Lists.{zeros, same}
 use Rattle.lent.specs.Outcome.{by}
 use Rattle.reed_solomon.specs.Code.{isCodeword, lengthened}
-use Rattle.reed_solomon.specs.Payload.{areCodewords}
+use Rattle.interleaving.specs.Payload.{areCodewords}
 use Rattle.scrambler.specs.Scrambler.{tapsAllowed}
 use Rattle.header.specs.Header.{headerFits, headerOf, headerRefusal, sumHolds, reservedOnes, rulesHold, fieldsFit}
 use Rattle.header.specs.Calls.{codeRefusal, CodeHeaderOutcome, readRefusal, readHeader, levelOf}

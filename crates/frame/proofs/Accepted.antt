@@ -12,9 +12,9 @@ use Rattle.basics.proofs.Tests.{same-true}
 use Rattle.basics.proofs.Lists.{bytes-take, bytes-drop}
 use Rattle.lent.proofs.Outcome.{gate, both-zero}
 use Rattle.reed_solomon.specs.Code.{parity, isCodeword, lengthened}
-use Rattle.reed_solomon.specs.Payload.{areCodewords, codedPayload}
+use Rattle.interleaving.specs.Payload.{areCodewords, codedPayload}
 use Rattle.reed_solomon.proofs.Laws.{parity-zeros, true-codeword, of-shorter}
-use Rattle.reed_solomon.proofs.Interleaved.{true-codewords, codewords-coded}
+use Rattle.interleaving.proofs.Interleaved.{true-codewords, codewords-coded}
 use Rattle.scrambler.specs.Scrambler.{tapsAllowed, scrambled}
 use Rattle.scrambler.proofs.Laws.{scrambled-twice, scrambled-bytes}
 use Rattle.header.specs.Header.{headerBytes, headerFits, headerOf, headerRefusal}

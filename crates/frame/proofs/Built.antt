@@ -11,9 +11,9 @@ use Rattle.basics.specs.Lists.{zeros, same}
 use Rattle.basics.proofs.Tests.{same-self}
 use Rattle.lent.proofs.Outcome.{accepted}
 use Rattle.reed_solomon.specs.Code.{parity, isCodeword, lengthened}
-use Rattle.reed_solomon.specs.Payload.{areCodewords}
+use Rattle.interleaving.specs.Payload.{areCodewords}
 use Rattle.reed_solomon.proofs.Laws.{parity-zeros, codeword-true, coded}
-use Rattle.reed_solomon.proofs.Interleaved.{codewords-true, coded-codewords, coded-front}
+use Rattle.interleaving.proofs.Interleaved.{codewords-true, coded-codewords, coded-front}
 use Rattle.scrambler.specs.Scrambler.{tapsAllowed, scrambled}
 use Rattle.scrambler.proofs.Laws.{scrambled-twice}
 use Rattle.header.specs.Header.{headerBytes, headerFits, headerOf, headerRefusal}

@@ -16,7 +16,7 @@ use Rattle.lent.specs.Written.{written}
 use Rattle.lent.proofs.Outcome.{accepted, gate, refused-by}
 use Rattle.lent.proofs.Written.{written-append, take-written}
 use Rattle.reed_solomon.proofs.Laws.{parity-length}
-use Rattle.reed_solomon.proofs.Interleaved.{coded-length}
+use Rattle.interleaving.proofs.Interleaved.{coded-length}
 use Rattle.scrambler.specs.Scrambler.{tapsAllowed, scrambled}
 use Rattle.scrambler.proofs.Laws.{scrambled-length}
 use Rattle.header.specs.Header.{headerBytes}

@@ -4,7 +4,7 @@ use Prim.Native.Nat.{ℕ, _/_, _%_}
 use Rattle.basics.specs.Lists.{zeros}
 use Rattle.crc.specs.Crc.{crc-32}
 use Rattle.reed_solomon.specs.Code.{parity}
-use Rattle.reed_solomon.specs.Payload.{codedPayload}
+use Rattle.interleaving.specs.Payload.{codedPayload}
 use Rattle.scrambler.specs.Scrambler.{scrambled}
 use Rattle.header.specs.Header.{headerBytes}
 use Rattle.header.specs.declared.Header.{Header}

@@ -9,7 +9,7 @@ use Rattle.basics.specs.Lists.{same}
 use Rattle.lent.specs.Outcome.{by}
 use Rattle.lent.specs.Written.{written}
 use Rattle.reed_solomon.specs.Code.{isCodeword, lengthened}
-use Rattle.reed_solomon.specs.Payload.{areCodewords}
+use Rattle.interleaving.specs.Payload.{areCodewords}
 use Rattle.scrambler.specs.Scrambler.{tapsAllowed, scrambled}
 use Rattle.header.specs.Header.{headerOf, headerRefusal}
 use Rattle.header.specs.declared.Header.{Header}

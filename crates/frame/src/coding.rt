@@ -58,6 +58,6 @@ fn area_payload(area: &[u8]) -> [u8; 2040]
     let mut payload = [0u8; 2040];
     lent::write_at(&mut payload, 0, area);
     lent::write_at(&mut payload, 1908, &check);
-    reed_solomon::write_parity(&mut payload);
+    interleaving::write_parity(&mut payload);
     payload
 }

@@ -56,7 +56,7 @@ fn payload_refusal(body: &[u8]) -> u8
     requires { ⌜ length (now body) ≡ 2072 ⌝ }
     ensures { λ r. ⌜ r ≡ payloadRefusal (now (body .entry)) ⌝ }
 {
-    if !reed_solomon::are_codewords(&body[32..]) {
+    if !interleaving::are_codewords(&body[32..]) {
         return 12;
     }
     if is_area_checked(body) { 0 } else { 13 }

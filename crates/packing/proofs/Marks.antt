@@ -14,7 +14,8 @@ use Rattle.basics.specs.Lists.{zeros}
 use Rattle.basics.proofs.Tests.{left-true, right-true}
 use Rattle.basics.proofs.Xor.{bit-cases}
 use Rattle.link.specs.Store.{markAt}
-use Rattle.packing.specs.Reading.{isFirst, isLast, lengthIn, allZero}
+use Rattle.record_marks.specs.Mark.{isFirst, isLast, lengthIn}
+use Rattle.packing.specs.Reading.{allZero}
 
 -- the mark of a record, by its parts
 abbrev pub markOf : Bool → Bool → ℕ → ℕ

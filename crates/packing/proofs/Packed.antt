@@ -18,7 +18,8 @@ use Rattle.link.proofs.Store.{mark-back}
 use Rattle.packing.specs.declared.Record.{Record}
 use Rattle.packing.specs.declared.Found.the-variants.{At}
 use Rattle.packing.specs.Rules.{shortest, recordMark, recordBytes, recordsBytes}
-use Rattle.packing.specs.Reading.{lengthIn, mayBegin, mayEnd, isMark, placed, recordAt, pieceOf, readFrom}
+use Rattle.record_marks.specs.Mark.{lengthIn, mayBegin, mayEnd, isMark}
+use Rattle.packing.specs.Reading.{placed, recordAt, pieceOf, readFrom}
 use Rattle.packing.proofs.Marks.{mark-length, mark-spare, mark-first, mark-last, mark-is}
 use Rattle.packing.proofs.Reading as reading
 

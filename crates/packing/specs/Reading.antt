@@ -1,39 +1,17 @@
 -- Reading an area, record by record from position 0 on, as a loop reads it (01, "Packing, the bench's own").
-use mathlib.Core.Bool.{Bool, true, cond, _&&_, _||_}
+use mathlib.Core.Bool.{Bool, true, cond, _&&_}
 use mathlib.Core.Option.{Option, none, some}
 use mathlib.Core.List.{List, [], _∷_}
-use Prim.Native.Nat.{ℕ, zero, suc, _+_, _/_, _%_}
+use Prim.Native.Nat.{ℕ, zero, suc, _+_}
 use lib.ListN.{length, take, drop}
-use lib.Dec.{leb, ltb, eqb}
+use lib.Dec.{ltb, eqb}
 use Rattle.link.specs.Link.{Piece}
 use Rattle.link.specs.Store.{markAt}
+use Rattle.record_marks.specs.Mark.{isFirst, isLast, lengthIn, isMark}
 use Rattle.packing.specs.Rules.{shortest}
 use Rattle.packing.specs.declared.Record.{Record}
 use Rattle.packing.specs.declared.Found.{Found}
 use Rattle.packing.specs.declared.Found.the-variants.{At, End, Against}
-
--- ---------------------------------------------------------------- one mark
-
-abbrev pub isFirst : ℕ → Bool
-isFirst mark = eqb (mark / 32768 % 2) 1
-
-abbrev pub isLast : ℕ → Bool
-isLast mark = eqb (mark / 16384 % 2) 1
-
-abbrev pub lengthIn : ℕ → ℕ
-lengthIn mark = mark % 2048
-
--- only the first record may lack "first": it stands at position 0
-unfoldable pub mayBegin : ℕ → ℕ → Bool
-mayBegin at mark = eqb at 0 || isFirst mark
-
--- a record that lacks "last" ends the area; `room` bytes are left in it, with the mark
-unfoldable pub mayEnd : ℕ → ℕ → Bool
-mayEnd room mark = isLast mark || eqb (2 + lengthIn mark) room
-
--- Bits 13-11 are zero; the length is at least 1, and as many bytes stand behind the mark.
-unfoldable pub isMark : ℕ → ℕ → ℕ → Bool
-isMark at room mark = eqb (mark / 2048 % 8) 0 && leb 1 (lengthIn mark) && leb (2 + lengthIn mark) room && mayBegin at mark && mayEnd room mark
 
 -- ---------------------------------------------------------------- what stands at a position
 

@@ -6,7 +6,7 @@ ghost use lib.ListN.{length, drop};
 ghost use Rattle.lent.specs.Written.{written};
 ghost use Rattle.link.specs.Store.{isSome};
 ghost use Rattle.packing.specs.Rules.{recordBytes};
-ghost use Rattle.packing.specs.Reading.{mayBegin, mayEnd, isMark, allZero, endAt, recordAt, read};
+ghost use Rattle.packing.specs.Reading.{allZero, endAt, recordAt, read};
 
 // A record: the marks of its piece, and where its bytes stand in the area.
 pub struct Record {
@@ -63,7 +63,7 @@ pub fn record_at(area: &[u8], at: usize) -> Found
     if mark == 0 {
         return end_at(area, at);
     }
-    if is_mark(at, total - at, mark) {
+    if record_marks::is_mark(at, total - at, mark) {
         let start = at + 2;
         return Found::At(Record {
             first: mark / 32768 % 2 == 1,
@@ -92,43 +92,6 @@ fn value_of(set: bool, value: usize) -> usize
     ensures small { λ r. ⌜ r ≤ value ⌝ }
 {
     if set { value } else { 0 }
-}
-
-fn is_mark(at: usize, room: usize, mark: usize) -> bool
-    ensures { λ r. ⌜ r ≡ isMark at room mark ⌝ }
-{
-    let length = mark % 2048;
-    if mark / 2048 % 8 != 0 {
-        return false;
-    }
-    if length < 1 {
-        return false;
-    }
-    if room < 2 + length {
-        return false;
-    }
-    if may_begin(at, mark) {
-        return may_end(room, mark);
-    }
-    false
-}
-
-fn may_begin(at: usize, mark: usize) -> bool
-    ensures { λ r. ⌜ r ≡ mayBegin at mark ⌝ }
-{
-    if at == 0 {
-        return true;
-    }
-    mark / 32768 % 2 == 1
-}
-
-fn may_end(room: usize, mark: usize) -> bool
-    ensures { λ r. ⌜ r ≡ mayEnd room mark ⌝ }
-{
-    if mark / 16384 % 2 == 1 {
-        return true;
-    }
-    2 + mark % 2048 == room
 }
 
 // Where the records end, all bytes are 0, and a record stands before.

@@ -6,7 +6,7 @@ use lib.Dec.{eqb, leb}
 use lib.ListN.{length, take}
 use Rattle.lent.specs.Outcome.{by}
 use Rattle.lent.specs.Written.{written}
-use Rattle.reed_solomon.specs.Payload.{codedPayload}
+use Rattle.interleaving.specs.Payload.{codedPayload}
 use Rattle.frame.specs.Frame.{frameBytes}
 use Rattle.frame.specs.Opening.{openRefusal, openedArea}
 use Rattle.header.specs.declared.Header.{Header}

@@ -9,7 +9,7 @@ use header::Txfn;
 ghost use mathlib.Core.Path.{_≡_};
 ghost use Rattle.crc.specs.Crc.{crc-32};
 ghost use Rattle.scrambler.specs.Scrambler.{scrambled};
-ghost use Rattle.reed_solomon.specs.Payload.{areCodewords};
+ghost use Rattle.interleaving.specs.Payload.{areCodewords};
 ghost use Rattle.frame.specs.Opening.{openRefusal, openNumber};
 ghost use Rattle.header.specs.Header.{bit};
 ghost use Rattle.parts.specs.Parts.{plainHeader, parityOut, builtOut, openedOut};
@@ -36,7 +36,7 @@ pub extern "C" fn part_write_parity(payload: &mut [u8])
     if payload.len() != 2040 {
         return;
     }
-    reed_solomon::write_parity(payload);
+    interleaving::write_parity(payload);
 }
 
 fn bit_of(flag: bool) -> u8
@@ -49,7 +49,7 @@ fn bit_of(flag: bool) -> u8
 pub extern "C" fn part_are_codewords(payload: &[u8]) -> u8
     ensures { λ r. ⌜ r ≡ bit (areCodewords (now (payload .entry))) ⌝ }
 {
-    bit_of(reed_solomon::are_codewords(payload))
+    bit_of(interleaving::are_codewords(payload))
 }
 
 // DATA, frame 0, and nothing else to tell.

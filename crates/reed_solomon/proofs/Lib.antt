@@ -1,6 +1,5 @@
 pub mod Factors
 pub mod Laws
-pub mod Interleaved
 pub mod Roots
 pub mod Places
 pub mod Distance

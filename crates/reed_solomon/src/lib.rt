@@ -1,10 +1,6 @@
-// The Reed-Solomon code of 255 bytes, 239 of them data, over the field of 256 elements: one word, and the eight words of a payload.
-mod payload;
-mod register;
+// The Reed-Solomon code of 255 bytes, 239 of them data, over the field of 256 elements: one word.
+pub mod register;
 
-pub use payload::are_codewords;
-pub use payload::write_parity;
-pub use register::generator;
 ghost use mathlib.Core.Path.{_≡_};
 ghost use Prim.Native.Nat.{_≤_};
 ghost use lib.ListN.{length};
@@ -30,7 +26,7 @@ pub fn is_codeword(word: &[u8]) -> bool
     is_word_of_code(&powers, &logarithms, word)
 }
 
-fn is_word_of_code(powers: &[u8; 255], logarithms: &[u8; 256], word: &[u8]) -> bool
+pub fn is_word_of_code(powers: &[u8; 255], logarithms: &[u8; 256], word: &[u8]) -> bool
     requires { ⌜ (now powers ≡ powerTable) × (now logarithms ≡ logarithmTable) × (16 ≤ length (now word)) ⌝ }
     ensures { λ r. ⌜ r ≡ isCodeword (lengthened (now (word .entry))) ⌝ }
 {

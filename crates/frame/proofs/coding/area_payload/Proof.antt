@@ -4,7 +4,7 @@ use lib.ListN.{length, take}
 use Rattle.basics.specs.Lists.{zeros}
 use Rattle.basics.proofs.Lists.{zeros-length}
 use Rattle.lent.specs.Written.{written}
-use Rattle.reed_solomon.specs.Payload.{codedPayload}
+use Rattle.interleaving.specs.Payload.{codedPayload}
 use Rattle.frame.specs.Frame.{areaPayload}
 use Rattle.frame.proofs.Laws.{check-length, payload-data}
 use borrow.Author.Needs.{needs}

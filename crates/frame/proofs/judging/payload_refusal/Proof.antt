@@ -1,7 +1,7 @@
 use mathlib.Core.Path.{sym, ap, _∙_}
 use borrow.Author.Tests.{not-true, not-false}
 use Rattle.frame.specs.Opening.{payloadRefusal}
-use Rattle.reed_solomon.specs.Payload.{areCodewords}
+use Rattle.interleaving.specs.Payload.{areCodewords}
 use Rattle.frame.proofs.Laws.{rest}
 use borrow.Author.Needs.{needs}
 use Rattle.frame.proofs.judging.payload_refusal.Statement.{statement}

@@ -4,10 +4,10 @@ use mathlib.Core.Path.{_≡_, sym, ap, _∙_}
 use Prim.Native.Nat.{_≤_, _-_}
 use lib.ListN.{length}
 use Rattle.field.specs.Tables.{powerTable, logarithmTable}
-use Rattle.reed_solomon.specs.Word.{withParity}
-use Rattle.reed_solomon.proofs.Interleaved.{withParities, parities-none, parities-more, parities-length, all-parities}
-use Rattle.reed_solomon.proofs.payload.write_parity.Statement.{statement}
-use Rattle.reed_solomon.proofs.payload.write_parity.Tie as tie
+use Rattle.interleaving.specs.Word.{withParity}
+use Rattle.interleaving.proofs.Interleaved.{withParities, parities-none, parities-more, parities-length, all-parities}
+use Rattle.interleaving.proofs.write_parity.Statement.{statement}
+use Rattle.interleaving.proofs.write_parity.Tie as tie
 
 abbrev Inv-loop : tie.InvT-loop
 Inv-loop payload₀ powers logarithms k₀ payload k = (k ≤ 8) × (length payload₀ ≡ 2040) × (powers ≡ powerTable) × (logarithms ≡ logarithmTable) × (payload ≡ withParities k payload₀)

@@ -1,7 +1,7 @@
 use borrow.Author.Tests.{eq-eqb, ne-eqb}
-use Rattle.packing.specs.Reading.{mayBegin}
-use Rattle.packing.proofs.may_begin.Statement.{statement}
-use Rattle.packing.proofs.may_begin.Tie as tie
+use Rattle.record_marks.specs.Mark.{mayBegin}
+use Rattle.record_marks.proofs.may_begin.Statement.{statement}
+use Rattle.record_marks.proofs.may_begin.Tie as tie
 
 returns : tie.Need-returns
 unfolding mayBegin

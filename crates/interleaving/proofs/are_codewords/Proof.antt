@@ -8,12 +8,12 @@ use borrow.Author.Tests.{not-true, not-false}
 use lib.ListN.{length}
 use Rattle.basics.proofs.Tests.{never-true}
 use Rattle.field.specs.Tables.{powerTable, logarithmTable}
 use Rattle.reed_solomon.specs.Code.{isCodeword}
-use Rattle.reed_solomon.specs.Payload.{everyEighth}
+use Rattle.interleaving.specs.Payload.{everyEighth}
 use Rattle.reed_solomon.proofs.Laws.{codeword-true, true-codeword}
-use Rattle.reed_solomon.proofs.Interleaved.{eighth-length, in-code, codewords-true, true-codewords}
-use Rattle.reed_solomon.proofs.payload.are_codewords.Statement.{statement}
-use Rattle.reed_solomon.proofs.payload.are_codewords.Tie as tie
+use Rattle.interleaving.proofs.Interleaved.{eighth-length, in-code, codewords-true, true-codewords}
+use Rattle.interleaving.proofs.are_codewords.Statement.{statement}
+use Rattle.interleaving.proofs.are_codewords.Tie as tie
 
 abbrev Inv-loop : tie.InvT-loop
 Inv-loop payload powers logarithms k₀ k = (k ≤ 8) × (length payload ≡ 2040) × (powers ≡ powerTable) × (logarithms ≡ logarithmTable) × ((m : ℕ) → m < k → isCodeword (everyEighth 255 m payload) ≡ true)

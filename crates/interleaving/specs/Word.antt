@@ -2,8 +2,8 @@
 use mathlib.Core.List.{List, [], _∷_}
 use Prim.Native.Nat.{ℕ, _+_}
 use lib.ListN.{set}
 use Rattle.reed_solomon.specs.Code.{parity}
-use Rattle.reed_solomon.specs.Payload.{everyEighth}
+use Rattle.interleaving.specs.Payload.{everyEighth}
 
 -- the bytes xs put at every eighth place from k on
 unfoldable pub spread : List ℕ → ℕ → List ℕ → List ℕ

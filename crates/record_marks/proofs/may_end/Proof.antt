@@ -1,8 +1,8 @@
 use borrow.Author.Tests.{eq-eqb, ne-eqb}
-use Rattle.packing.specs.Reading.{mayEnd}
+use Rattle.record_marks.specs.Mark.{mayEnd}
 use borrow.Author.Needs.{needs}
-use Rattle.packing.proofs.may_end.Statement.{statement}
-use Rattle.packing.proofs.may_end.Tie as tie
+use Rattle.record_marks.proofs.may_end.Statement.{statement}
+use Rattle.record_marks.proofs.may_end.Tie as tie
 
 returns : tie.Need-returns
 unfolding mayEnd

@@ -4,10 +4,10 @@ use mathlib.Core.Path.{_≡_, sym}
 use Prim.Native.Nat.{_≤_, _-_}
 use lib.ListN.{length}
 use Rattle.basics.proofs.Fill.{Filled, filled-more, filled-all}
-use Rattle.reed_solomon.specs.Payload.{everyEighth}
-use Rattle.reed_solomon.proofs.Interleaved.{eighth-at, eighth-length}
-use Rattle.reed_solomon.proofs.payload.gathered.Statement.{statement}
-use Rattle.reed_solomon.proofs.payload.gathered.Tie as tie
+use Rattle.interleaving.specs.Payload.{everyEighth}
+use Rattle.interleaving.proofs.Interleaved.{eighth-at, eighth-length}
+use Rattle.interleaving.proofs.gathered.Statement.{statement}
+use Rattle.interleaving.proofs.gathered.Tie as tie
 
 abbrev Inv-loop : tie.InvT-loop
 Inv-loop payload k word₀ i₀ word i = (i ≤ 255) × (length word ≡ 255) × Filled (everyEighth 255 k payload) i word

@@ -5,13 +5,13 @@ use Prim.Native.Nat.{_+_, _*_, _≤_, _-_}
 use native.Mathlib.Nat.{add-zero}
 use lib.ListN.{length, drop, take, length-set}
 use lib.Seq.{length-take-le}
 use Rattle.reed_solomon.specs.Code.{parity}
-use Rattle.reed_solomon.specs.Payload.{everyEighth}
-use Rattle.reed_solomon.specs.Word.{spread, withParity}
+use Rattle.interleaving.specs.Payload.{everyEighth}
+use Rattle.interleaving.specs.Word.{spread, withParity}
 use Rattle.reed_solomon.proofs.Laws.{parity-length}
-use Rattle.reed_solomon.proofs.Interleaved.{eighth-length, take-eighth, spread-turn, spread-end}
-use Rattle.reed_solomon.proofs.payload.write_word.Statement.{statement}
-use Rattle.reed_solomon.proofs.payload.write_word.Tie as tie
+use Rattle.interleaving.proofs.Interleaved.{eighth-length, take-eighth, spread-turn, spread-end}
+use Rattle.interleaving.proofs.write_word.Statement.{statement}
+use Rattle.interleaving.proofs.write_word.Tie as tie
 
 abbrev Inv-loop : tie.InvT-loop
 Inv-loop powers logarithms payload₀ k parity j₀ payload j = (j ≤ 16) × (length parity ≡ 16) × (length payload ≡ length payload₀) × (spread (drop j parity) (1912 + k + 8 * j) payload ≡ withParity k payload₀)

@@ -14,10 +14,10 @@ use lib.Seq.{drop-cons, getD-set-same, getD-set-other, ext-getD, length-take-le,
 use Rattle.basics.specs.Lists.{entries, allBelow}
 use Rattle.basics.proofs.Tests.{lt-or-ge, both-true, left-true, right-true, below-true, all-below}
 use Rattle.basics.proofs.Lists.{entries-length, entries-at}
 use Rattle.reed_solomon.specs.Code.{parity, isCodeword, lengthened}
-use Rattle.reed_solomon.specs.Payload.{everyEighth, parityByte, codedPayload, areCodewords}
-use Rattle.reed_solomon.specs.Word.{spread, withParity}
+use Rattle.interleaving.specs.Payload.{everyEighth, parityByte, codedPayload, areCodewords}
+use Rattle.interleaving.specs.Word.{spread, withParity}
 use Rattle.reed_solomon.proofs.Laws.{Codeword, codeword-true, true-codeword, parity-length, lengthened-whole, by-places, at-place}
 
 -- ---- every eighth byte, read
 

@@ -2,10 +2,10 @@ use Prim.Native.Nat.{_+_, _%_}
 use native.Mathlib.Omega.{arith}
 use mathlib.Core.Path.{sym, _∙_}
 use borrow.Author.Tests.{eq-eqb, ne-eqb, le-leb, lt-leb}
-use Rattle.packing.specs.Reading.{isMark}
+use Rattle.record_marks.specs.Mark.{isMark}
 use borrow.Author.Needs.{needs}
-use Rattle.packing.proofs.is_mark.Statement.{statement}
-use Rattle.packing.proofs.is_mark.Tie as tie
+use Rattle.record_marks.proofs.is_mark.Statement.{statement}
+use Rattle.record_marks.proofs.is_mark.Tie as tie
 
 returns : tie.Need-returns
 unfolding isMark

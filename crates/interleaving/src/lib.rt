@@ -1,12 +1,12 @@
-// The eight interleaved words of a payload of 2,040 bytes.
-use crate::is_word_of_code;
-use crate::register;
+// The eight interleaved words of the Reed-Solomon code in a payload of 2,040 bytes.
+use reed_solomon::is_word_of_code;
+use reed_solomon::register;
 ghost use mathlib.Core.Path.{_≡_};
 ghost use Prim.Native.Nat.{_<_};
 ghost use lib.ListN.{length, take};
 ghost use Rattle.field.specs.Tables.{powerTable, logarithmTable};
-ghost use Rattle.reed_solomon.specs.Payload.{everyEighth, codedPayload, areCodewords};
-ghost use Rattle.reed_solomon.specs.Word.{withParity};
+ghost use Rattle.interleaving.specs.Payload.{everyEighth, codedPayload, areCodewords};
+ghost use Rattle.interleaving.specs.Word.{withParity};
 
 // Writes the 128 parity bytes of the eight words behind the 1,912 bytes of data.
 pub fn write_parity(payload: &mut [u8])

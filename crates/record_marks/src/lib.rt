@@ -1,0 +1,41 @@
+// The mark of a record: whether it may stand where it stands (01, "Packing, the bench's own").
+ghost use mathlib.Core.Path.{_≡_};
+ghost use Rattle.record_marks.specs.Mark.{mayBegin, mayEnd, isMark};
+
+// Whether a mark may stand at a position of the area, with `room` bytes from it to the area's end.
+pub fn is_mark(at: usize, room: usize, mark: usize) -> bool
+    ensures { λ r. ⌜ r ≡ isMark at room mark ⌝ }
+{
+    let length = mark % 2048;
+    if mark / 2048 % 8 != 0 {
+        return false;
+    }
+    if length < 1 {
+        return false;
+    }
+    if room < 2 + length {
+        return false;
+    }
+    if may_begin(at, mark) {
+        return may_end(room, mark);
+    }
+    false
+}
+
+fn may_begin(at: usize, mark: usize) -> bool
+    ensures { λ r. ⌜ r ≡ mayBegin at mark ⌝ }
+{
+    if at == 0 {
+        return true;
+    }
+    mark / 32768 % 2 == 1
+}
+
+fn may_end(room: usize, mark: usize) -> bool
+    ensures { λ r. ⌜ r ≡ mayEnd room mark ⌝ }
+{
+    if mark / 16384 % 2 == 1 {
+        return true;
+    }
+    2 + mark % 2048 == room
+}
