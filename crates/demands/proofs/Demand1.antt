@@ -26,9 +26,9 @@ use Rattle.link.specs.Link as link
 use Rattle.link.specs.Packing.{receiveRead}
 use Rattle.marks.specs.Queue.{isUsedWhole}
 use Rattle.sender.specs.Put.{putRefusal, PutOutcome}
-use Rattle.sender.specs.Next.{nextRefusal, NextOutcome}
+use Rattle.sending.specs.Next.{nextRefusal, NextOutcome}
 use Rattle.sender.specs.declared.PutAnswer.the-variants as putting
-use Rattle.sender.specs.declared.NextAnswer.the-variants as sending
+use Rattle.sending.specs.declared.NextAnswer.the-variants as sending
 use Rattle.receiver.specs.Applying.{standing, piecesOf, received, numberOf, buffersRefusal, applyRefusal, ApplyOutcome}
 use Rattle.receiver.specs.Receiving.{argumentRefusal, frameRefusal, receiveRefusal, ReceiveOutcome}
 use Rattle.receiver.specs.declared.Receiver.{Receiver}

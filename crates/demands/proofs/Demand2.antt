@@ -41,10 +41,10 @@ use Rattle.packing.specs.Reading.{read}
 use Rattle.packing.proofs.Allowed.{read-iff, read-allowed, allowed-read}
 use Rattle.packing.proofs.Filling.{fill-cut}
 use Rattle.packing.proofs.Bench.{area-allowed}
-use Rattle.sender.specs.Next.{kindFor, areaFor, headerFor, senderAfter, nextRefusal, NextOutcome}
+use Rattle.sending.specs.Next.{kindFor, areaFor, headerFor, senderAfter, nextRefusal, NextOutcome}
 use Rattle.sender.specs.declared.Sender.{Sender}
-use Rattle.sender.specs.declared.NextAnswer.the-variants.{Sent, Refused}
-use Rattle.sender.proofs.Sending.{next-passed}
+use Rattle.sending.specs.declared.NextAnswer.the-variants.{Sent, Refused}
+use Rattle.sending.proofs.Sending.{next-passed}
 use Rattle.receiver.specs.Applying.{standing, isData, piecesOf, received, numberOf, buffersRefusal}
 use Rattle.receiver.specs.Receiving.{argumentRefusal, frameRefusal, receiveRefusal}
 use Rattle.receiver.specs.declared.Receiver.{Receiver}

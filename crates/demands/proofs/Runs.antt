@@ -30,13 +30,13 @@ use Rattle.packing.specs.Filling.{load}
 use Rattle.marks.specs.Queue.{isUsedWhole, queueIn}
 use Rattle.marks.proofs.Parsed.{queue-is}
 use Rattle.sender.specs.Put.{freshSender, putRefusal, putSender, putBytes, PutOutcome}
-use Rattle.sender.specs.Next.{kindFor, areaFor, headerFor, leftIn, senderAfter, nextRefusal, NextOutcome}
+use Rattle.sending.specs.Next.{kindFor, areaFor, headerFor, leftIn, senderAfter, nextRefusal, NextOutcome}
 use Rattle.sender.specs.declared.Sender.{Sender}
 use Rattle.sender.specs.declared.PutAnswer.the-variants as putting
-use Rattle.sender.specs.declared.NextAnswer.the-variants as sending
+use Rattle.sending.specs.declared.NextAnswer.the-variants as sending
 use Rattle.sender.proofs.Stands.{Stands, fresh-stands}
 use Rattle.sender.proofs.Putting.{put-stands}
-use Rattle.sender.proofs.Carried.{next-stands}
+use Rattle.sending.proofs.Carried.{next-stands}
 use Rattle.receiver.specs.Applying.{received, numberOf}
 use Rattle.receiver.specs.Receiving.{argumentRefusal, frameRefusal, receiveRefusal, ReceiveOutcome}
 use Rattle.receiver.specs.declared.Receiver.{Receiver}

@@ -22,13 +22,13 @@ use Rattle.packing.specs.Reading.{read}
 use Rattle.packing.proofs.Bench.{bench}
 use Rattle.joining.specs.Joining.{orNone}
 use Rattle.sender.specs.Put.{PutOutcome}
-use Rattle.sender.specs.Next.{NextOutcome}
+use Rattle.sending.specs.Next.{NextOutcome}
 use Rattle.sender.specs.declared.Sender.{Sender}
 use Rattle.sender.specs.declared.PutAnswer.the-variants as put
-use Rattle.sender.specs.declared.NextAnswer.the-variants as next
+use Rattle.sending.specs.declared.NextAnswer.the-variants as next
 use Rattle.sender.proofs.Stands.{Stands}
 use Rattle.sender.proofs.Putting.{put-stands}
-use Rattle.sender.proofs.Carried.{Carries, next-stands}
+use Rattle.sending.proofs.Carried.{Carries, next-stands}
 use Rattle.receiver.specs.Applying.{piecesOf}
 use Rattle.demands.specs.Demand3.{SenderCall, callPut, callNext, SenderCalls, packetsPut, framesSent, queueLeft, piecesCarried}
 use Rattle.demands.proofs.Demand1.{every-call-holds}

@@ -18,12 +18,12 @@ use Rattle.frame.specs.Opening.{OpenOutcome}
 use Rattle.frame.specs.declared.OpenAnswer.{OpenAnswer}
 use Rattle.frame.specs.declared.OpenAnswer.the-variants as opening
 use Rattle.sender.specs.Put.{PutOutcome}
-use Rattle.sender.specs.Next.{NextOutcome}
+use Rattle.sending.specs.Next.{NextOutcome}
 use Rattle.sender.specs.declared.Sender.{Sender}
 use Rattle.sender.specs.declared.PutAnswer.{PutAnswer}
 use Rattle.sender.specs.declared.PutAnswer.the-variants as putting
-use Rattle.sender.specs.declared.NextAnswer.{NextAnswer}
-use Rattle.sender.specs.declared.NextAnswer.the-variants as sending
+use Rattle.sending.specs.declared.NextAnswer.{NextAnswer}
+use Rattle.sending.specs.declared.NextAnswer.the-variants as sending
 use Rattle.receiver.specs.Applying.{ApplyOutcome}
 use Rattle.receiver.specs.Receiving.{ReceiveOutcome}
 use Rattle.receiver.specs.declared.Receiver.{Receiver}

@@ -28,9 +28,9 @@ use Rattle.marks.specs.Queue.{queueIn}
 use Rattle.packing.specs.Rules.{Allowed}
 use Rattle.packing.specs.Filling.{load}
 use Rattle.packing.specs.Reading.{read}
-use Rattle.sender.specs.Next.{NextOutcome}
+use Rattle.sending.specs.Next.{NextOutcome}
 use Rattle.sender.specs.declared.Sender.{Sender}
-use Rattle.sender.specs.declared.NextAnswer.the-variants.{Sent}
+use Rattle.sending.specs.declared.NextAnswer.the-variants.{Sent}
 use Rattle.receiver.specs.Applying.{expectedNumber, isData}
 use Rattle.receiver.specs.Receiving.{receiveRefusal}
 use Rattle.receiver.specs.declared.Receiver.{Receiver}

@@ -18,12 +18,12 @@ use Rattle.link.specs.Demand3.{Demand3}
 use Rattle.marks.specs.Queue.{queueIn}
 use Rattle.joining.specs.Joining.{orNone}
 use Rattle.sender.specs.Put.{freshSender, PutOutcome}
-use Rattle.sender.specs.Next.{NextOutcome}
+use Rattle.sending.specs.Next.{NextOutcome}
 use Rattle.sender.specs.declared.Sender.{Sender}
 use Rattle.sender.specs.declared.PutAnswer.{PutAnswer}
 use Rattle.sender.specs.declared.PutAnswer.the-variants as put
-use Rattle.sender.specs.declared.NextAnswer.{NextAnswer}
-use Rattle.sender.specs.declared.NextAnswer.the-variants as next
+use Rattle.sending.specs.declared.NextAnswer.{NextAnswer}
+use Rattle.sending.specs.declared.NextAnswer.the-variants as next
 use Rattle.receiver.specs.Applying.{freshReceiver, piecesOf}
 use Rattle.receiver.specs.Receiving.{ReceiveOutcome}
 use Rattle.receiver.specs.declared.Receiver.{Receiver}

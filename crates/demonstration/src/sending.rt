@@ -7,8 +7,8 @@ use header::FrameKind;
 use header::Rxfn;
 use report::line;
 use scenario::blocks;
-use sender::NextAnswer;
 use sender::PutAnswer;
+use sending::NextAnswer;
 
 // Puts the next block, which is made in bytes lent for it.
 pub fn put_block(session: Session, queue: &mut [u8], block: &mut [u8], out: &mut [u8]) -> Session {
@@ -100,7 +100,7 @@ pub fn send(session: Session, queue: &mut [u8], frame: &mut [u8], out: &mut [u8]
     let sender = session.sender;
     let used = sender.used;
     let first = std::num::wrapping_sub_u16(put, waiting(report::front(queue, used)));
-    match sender::next_frame(TAPS, fields(), sender, queue, frame) {
+    match sending::next_frame(TAPS, fields(), sender, queue, frame) {
         NextAnswer::Sent { sender: next, kind } => {
             let end = end_of_sent(put, queue, next.used);
             tell_carried(kind, first, end, out);

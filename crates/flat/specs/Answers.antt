@@ -9,8 +9,8 @@ use Rattle.receiver.specs.declared.ReceiveAnswer.{ReceiveAnswer}
 use Rattle.receiver.specs.declared.ReceiveAnswer.the-variants as receive
 use Rattle.sender.specs.declared.PutAnswer.{PutAnswer}
 use Rattle.sender.specs.declared.PutAnswer.the-variants as put
-use Rattle.sender.specs.declared.NextAnswer.{NextAnswer}
-use Rattle.sender.specs.declared.NextAnswer.the-variants as next
+use Rattle.sending.specs.declared.NextAnswer.{NextAnswer}
+use Rattle.sending.specs.declared.NextAnswer.the-variants as next
 use Rattle.flat.specs.Headers.{flatHeader, noHeader}
 use Rattle.flat.specs.States.{flatSender, flatReceiver}
 use Rattle.flat.specs.declared.states.FlatReceiver.{FlatReceiver}

@@ -90,7 +90,7 @@ pub fn next_frame(body: &[u8], queue: &mut [u8], at_hand: &mut Lent) -> Outcome 
     }
     let header = fields::header(&given);
     let mut output = lent_bytes::kept();
-    let answer = sender::next_frame(
+    let answer = sending::next_frame(
         taps,
         header.fields,
         sender,

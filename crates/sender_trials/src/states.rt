@@ -3,9 +3,9 @@ ghost use Prim.Native.Nat.{_≤_};
 ghost use lib.ListN.{length};
 use header::Txfn;
 use header_trials::fields;
-use sender::NextAnswer;
 use sender::PutAnswer;
 use sender::Sender;
+use sending::NextAnswer;
 use vectors::numbers;
 
 // The state in the first 10 bytes.

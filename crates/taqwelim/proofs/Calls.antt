@@ -6,7 +6,7 @@ use Rattle.header.specs.Calls.{codeNumber}
 use Rattle.header.proofs.Calls.{code-header-one}
 use Rattle.receiver.proofs.Receiving.{receive-one}
 use Rattle.sender.proofs.Putting.{put-one}
-use Rattle.sender.proofs.Sending.{next-frame-one}
+use Rattle.sending.proofs.Sending.{next-frame-one}
 use Rattle.flat.specs.Answers.{flatPut, flatNext, flatReceive}
 use Rattle.flat.specs.Headers.{fieldsOf, headerOf}
 use Rattle.flat.specs.States.{senderOf, receiverOf}

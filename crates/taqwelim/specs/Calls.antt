@@ -8,9 +8,9 @@ use Rattle.header.specs.declared.CodeAnswer.{CodeAnswer}
 use Rattle.receiver.specs.Receiving.{ReceiveOutcome}
 use Rattle.receiver.specs.declared.ReceiveAnswer.{ReceiveAnswer}
 use Rattle.sender.specs.Put.{PutOutcome}
-use Rattle.sender.specs.Next.{NextOutcome}
+use Rattle.sending.specs.Next.{NextOutcome}
 use Rattle.sender.specs.declared.PutAnswer.{PutAnswer}
-use Rattle.sender.specs.declared.NextAnswer.{NextAnswer}
+use Rattle.sending.specs.declared.NextAnswer.{NextAnswer}
 use Rattle.flat.specs.Answers.{flatPut, flatNext, flatReceive}
 use Rattle.flat.specs.Headers.{fieldsOf, headerOf}
 use Rattle.flat.specs.States.{senderOf, receiverOf}

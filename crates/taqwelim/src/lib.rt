@@ -50,7 +50,7 @@ pub extern "C" fn taqwelim_next_frame(
 ) -> FlatNext
     ensures { λ r. ⌜ NextCall taps fields sender (now (queue .entry)) (now (out .entry)) r (now (queue .exit)) (now (out .exit)) ⌝ }
 {
-    let answer = sender::next_frame(
+    let answer = sending::next_frame(
         taps,
         headers::fields_of(fields),
         states::sender_of(sender),

@@ -1,9 +1,9 @@
 use borrow.Author.Tests.{le-leb, lt-leb, eq-eqb, ne-eqb, not-true, not-false}
 use mathlib.Core.Path.{sym, _∙_}
-use Rattle.sender.specs.Next.{nextRefusal}
+use Rattle.sending.specs.Next.{nextRefusal}
 use borrow.Author.Needs.{needs}
-use Rattle.sender.proofs.next_refusal.Statement.{statement}
-use Rattle.sender.proofs.next_refusal.Tie as tie
+use Rattle.sending.proofs.next_refusal.Statement.{statement}
+use Rattle.sending.proofs.next_refusal.Tie as tie
 
 are-taps-requires : tie.Need-are-taps-requires
 are-taps-requires c κs = search needs

@@ -1,6 +1,6 @@
 use borrow.Author.Tests.{eq-eqb, ne-eqb}
-use Rattle.sender.proofs.kind_for.Statement.{statement}
-use Rattle.sender.proofs.kind_for.Tie as tie
+use Rattle.sending.proofs.kind_for.Statement.{statement}
+use Rattle.sending.proofs.kind_for.Tie as tie
 
 returns : tie.Need-returns
 returns c =

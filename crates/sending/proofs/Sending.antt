@@ -25,11 +25,11 @@ use Rattle.header.specs.declared.FrameKind.{FrameKind}
 use Rattle.header.specs.declared.FrameKind.the-variants.{Idle, Data}
 use Rattle.marks.specs.Queue.{isUsedWhole, queueIn}
 use Rattle.marks.proofs.Parsed.{whole-parsed}
-use Rattle.sender.specs.Next.{kindFor, areaFor, leftIn, nextRefusal, nextNumber, nextAnswer, NextOutcome}
+use Rattle.sending.specs.Next.{kindFor, areaFor, leftIn, nextRefusal, nextNumber, nextAnswer, NextOutcome}
 use Rattle.filling.specs.Filling.{remaining, FillOutcome}
 use Rattle.sender.specs.declared.Sender.{Sender}
-use Rattle.sender.specs.declared.NextAnswer.{NextAnswer}
-use Rattle.sender.specs.declared.NextAnswer.the-variants.{Sent, Refused}
+use Rattle.sending.specs.declared.NextAnswer.{NextAnswer}
+use Rattle.sending.specs.declared.NextAnswer.the-variants.{Sent, Refused}
 use Rattle.filling.specs.declared.Filled.{Filled}
 use Rattle.basics.proofs.Lists.{bytes-take}
 

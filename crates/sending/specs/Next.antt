@@ -21,9 +21,9 @@ use Rattle.header.specs.declared.FrameKind.the-variants.{Idle, Data}
 use Rattle.header.specs.declared.Header.{Header}
 use Rattle.frame.specs.Frame.{frameBytes}
 use Rattle.marks.specs.Queue.{isUsedWhole, queueIn}
 use Rattle.sender.specs.declared.Sender.{Sender}
-use Rattle.sender.specs.declared.NextAnswer.{NextAnswer}
-use Rattle.sender.specs.declared.NextAnswer.the-variants.{Sent, Refused}
+use Rattle.sending.specs.declared.NextAnswer.{NextAnswer}
+use Rattle.sending.specs.declared.NextAnswer.the-variants.{Sent, Refused}
 
 -- ---------------------------------------------------------------- the frame for a queue
 

@@ -7,12 +7,12 @@ use Rattle.lent.specs.Written.{written}
 use Rattle.lent.proofs.Outcome.{refused, kept, accepted}
 use Rattle.header.specs.declared.FrameKind.{FrameKind}
 use Rattle.frame.specs.Frame.{frameBytes}
-use Rattle.sender.specs.declared.NextAnswer.the-variants.{Refused}
+use Rattle.sending.specs.declared.NextAnswer.the-variants.{Refused}
 use Rattle.basics.proofs.Lists.{bytes-each}
-use Rattle.sender.proofs.Sending.{next-passed, used-length, kind-is, area-is, rest-is, start-within, sent-path}
+use Rattle.sending.proofs.Sending.{next-passed, used-length, kind-is, area-is, rest-is, start-within, sent-path}
 use borrow.Author.Needs.{needs}
-use Rattle.sender.proofs.next_frame.Statement.{statement}
-use Rattle.sender.proofs.next_frame.Tie as tie
+use Rattle.sending.proofs.next_frame.Statement.{statement}
+use Rattle.sending.proofs.next_frame.Tie as tie
 
 next-refusal-requires : tie.Need-next-refusal-requires
 next-refusal-requires c κs = search needs

@@ -32,12 +32,12 @@ use Rattle.marks.proofs.Parsed.{queue-is}
 use Rattle.frame.specs.Frame.{preamble, codedHeader, areaPayload, frameBytes}
 use Rattle.frame.proofs.Laws.{body-length}
 use Rattle.scrambler.specs.Scrambler.{scrambled}
-use Rattle.sender.specs.Next.{areaFor, headerFor, leftIn, senderAfter, kindFor, nextRefusal, NextOutcome}
+use Rattle.sending.specs.Next.{areaFor, headerFor, leftIn, senderAfter, kindFor, nextRefusal, NextOutcome}
 use Rattle.sender.specs.declared.Sender.{Sender}
-use Rattle.sender.specs.declared.NextAnswer.the-variants.{Sent, Refused}
+use Rattle.sending.specs.declared.NextAnswer.the-variants.{Sent, Refused}
 use Rattle.lent.proofs.Written.{bytes-written, written-front}
 use Rattle.sender.proofs.Stands.{Stands}
-use Rattle.sender.proofs.Sending.{next-passed}
+use Rattle.sending.proofs.Sending.{next-passed}
 
 -- ---- what is left of a queue of bytes is bytes
 
