@@ -1,8 +1,8 @@
 // The sender: packets are put into a lent queue of 32,768 bytes, and go out frame by frame (01, "Queue" and "Next frame").
+use counts::Txfn;
 use header::Fields;
 use header::FrameKind;
 use header::Header;
-use header::Txfn;
 ghost use mathlib.Core.Path.{_≡_};
 ghost use mathlib.Core.Bool.{cond};
 ghost use lib.Dec.{eqb};
