@@ -12,12 +12,14 @@ use Rattle.lent.specs.Outcome.{by}
 use Rattle.reed_solomon.specs.Code.{isCodeword, lengthened}
 use Rattle.interleaving.specs.Payload.{areCodewords}
 use Rattle.scrambler.specs.Scrambler.{tapsAllowed}
-use Rattle.header.specs.Header.{headerFits, headerOf, headerRefusal, sumHolds, reservedOnes, rulesHold, fieldsFit}
-use Rattle.header.specs.Calls.{codeRefusal, CodeHeaderOutcome, readRefusal, readHeader, levelOf}
+use Rattle.header.specs.Header.{headerFits, fieldsFit}
+use Rattle.reading.specs.Reading.{headerOf, headerRefusal, sumHolds, reservedOnes, rulesHold, readRefusal, readHeader}
+use Rattle.header.specs.Calls.{codeRefusal, CodeHeaderOutcome}
+use Rattle.level.specs.Level.{levelOf}
 use Rattle.header.specs.declared.Fields.{Fields}
 use Rattle.header.specs.declared.Header.{Header}
 use Rattle.header.specs.declared.CodeAnswer.the-variants as coding
-use Rattle.header.specs.declared.ReadAnswer.the-variants as reading
+use Rattle.reading.specs.declared.ReadAnswer.the-variants as reading
 use Rattle.frame.specs.Frame.{preamble}
 use Rattle.frame.specs.Opening.{unscrambled, headerPart, areaChecked, outerRefusal, payloadRefusal, innerRefusal, openRefusal, openedHeader, openedArea, OpenOutcome}
 use Rattle.frame.specs.declared.OpenAnswer.the-variants as opening

@@ -21,7 +21,7 @@ use Rattle.header.specs.Header.{headerFits, fieldsFit}
 use Rattle.header.specs.declared.Fields.{Fields}
 use Rattle.header.specs.declared.FrameKind.{FrameKind}
 use Rattle.header.specs.declared.Header.{Header}
-use Rattle.header.proofs.Theorems.{read-of-coded, coded-of-read}
+use Rattle.reading.proofs.Theorems.{read-of-coded, coded-of-read}
 use Rattle.frame.specs.Frame.{frameBytes}
 use Rattle.frame.specs.Opening.{openRefusal, outerRefusal, innerRefusal, unscrambled, openedHeader, openedArea, OpenOutcome}
 use Rattle.frame.specs.declared.OpenAnswer.the-variants.{Opened}

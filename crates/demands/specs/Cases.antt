@@ -10,7 +10,7 @@ use Rattle.basics.specs.Lists.{zeros}
 use Rattle.crc.specs.Crc.{crc-16, crc-32}
 use Rattle.field.specs.Field.{power}
 use Rattle.scrambler.specs.Scrambler.{scrambled}
-use Rattle.header.specs.Calls.{levelOf}
+use Rattle.level.specs.Level.{levelOf}
 use Rattle.header.specs.Header.{fieldBytes}
 use Rattle.header.specs.declared.Header.{Header}
 use Rattle.header.specs.declared.FrameKind.the-variants.{Idle, Data}

@@ -7,13 +7,15 @@ use mathlib.Core.List.{List, [], _∷_}
 use Prim.Native.Nat.{ℕ}
 use lib.Dec.{eqb}
 use lib.IntN.{ℤ}
-use Rattle.header.specs.Calls.{CodeHeaderOutcome, readHeader, levelOf}
+use Rattle.header.specs.Calls.{CodeHeaderOutcome}
+use Rattle.reading.specs.Reading.{readHeader}
+use Rattle.level.specs.Level.{levelOf}
 use Rattle.header.specs.declared.Fields.{Fields}
 use Rattle.header.specs.declared.Header.{Header}
 use Rattle.header.specs.declared.CodeAnswer.{CodeAnswer}
 use Rattle.header.specs.declared.CodeAnswer.the-variants as coding
-use Rattle.header.specs.declared.ReadAnswer.{ReadAnswer}
-use Rattle.header.specs.declared.ReadAnswer.the-variants as reading
+use Rattle.reading.specs.declared.ReadAnswer.{ReadAnswer}
+use Rattle.reading.specs.declared.ReadAnswer.the-variants as reading
 use Rattle.frame.specs.Opening.{OpenOutcome}
 use Rattle.frame.specs.declared.OpenAnswer.{OpenAnswer}
 use Rattle.frame.specs.declared.OpenAnswer.the-variants as opening

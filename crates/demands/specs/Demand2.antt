@@ -11,13 +11,13 @@ use lib.ListN.{length, take}
 use Rattle.basics.specs.Lists.{zeros, Bytes}
 use Rattle.lent.specs.Written.{written}
 use Rattle.scrambler.specs.Scrambler.{tapsAllowed}
-use Rattle.header.specs.Header.{headerBytes, headerFits, headerOf}
-use Rattle.header.specs.Calls.{readRefusal, readHeader}
+use Rattle.header.specs.Header.{headerBytes, headerFits}
+use Rattle.reading.specs.Reading.{headerOf, readRefusal, readHeader}
 use Rattle.header.specs.declared.Fields.{Fields}
 use Rattle.header.specs.declared.FrameKind.{FrameKind}
 use Rattle.header.specs.declared.FrameKind.the-variants.{Idle, Data}
 use Rattle.header.specs.declared.Header.{Header}
-use Rattle.header.specs.declared.ReadAnswer.the-variants.{Read}
+use Rattle.reading.specs.declared.ReadAnswer.the-variants.{Read}
 use Rattle.frame.specs.Frame.{frameBytes}
 use Rattle.frame.specs.Opening.{OpenOutcome}
 use Rattle.frame.specs.declared.OpenAnswer.{OpenAnswer}

@@ -1,10 +1,10 @@
 // The near end: blocks are put, and the next frame is built.
+use counts::Rxfn;
 use crate::session::Session;
 use crate::session::TAPS;
 use fast_channel::FastChannel;
 use header::Fields;
 use header::FrameKind;
-use header::Rxfn;
 use report::line;
 use scenario::blocks;
 use sender::PutAnswer;

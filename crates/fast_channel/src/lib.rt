@@ -34,7 +34,7 @@ pub enum FastChannel {
     Absent,
 }
 
-fn lock_number(lock: Lock) -> u16
+pub fn lock_number(lock: Lock) -> u16
     ensures { λ r. ⌜ r ≡ lockNumber lock ⌝ }
     ensures small { λ r. ⌜ r ≤ 1 ⌝ }
 {
@@ -44,7 +44,7 @@ fn lock_number(lock: Lock) -> u16
     }
 }
 
-fn lock_of(number: u16) -> Lock
+pub fn lock_of(number: u16) -> Lock
     ensures { λ r. ⌜ r ≡ lockOf number ⌝ }
 {
     if number == 0 {

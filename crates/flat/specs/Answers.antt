@@ -1,8 +1,8 @@
 -- What C gets for each answer of the library: the refusal's number, 0 for none, and the values. After a refusal the state is the one that was given,
 -- and all else is 0.
 use Rattle.header.specs.Header.{kindNumber}
-use Rattle.header.specs.declared.ReadAnswer.{ReadAnswer}
-use Rattle.header.specs.declared.ReadAnswer.the-variants as read
+use Rattle.reading.specs.declared.ReadAnswer.{ReadAnswer}
+use Rattle.reading.specs.declared.ReadAnswer.the-variants as read
 use Rattle.list.specs.declared.EntryAnswer.{EntryAnswer}
 use Rattle.list.specs.declared.EntryAnswer.the-variants as entry
 use Rattle.receiver.specs.declared.ReceiveAnswer.{ReceiveAnswer}

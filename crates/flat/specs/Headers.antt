@@ -2,7 +2,8 @@
 -- (6), so that the number which C gets is the library's, the lowest that applies.
 use mathlib.Core.Bool.{Bool, true, cond, _&&_}
 use lib.Dec.{eqb, leb}
-use Rattle.header.specs.Header.{bit, kindNumber, kindOf}
+use Rattle.header.specs.Header.{bit, kindNumber}
+use Rattle.reading.specs.Reading.{kindOf}
 use Rattle.fast_channel.specs.declared.FastChannel.{FastChannel}
 use Rattle.fast_channel.specs.declared.FastChannel.the-variants.{Reserved}
 use Rattle.header.specs.declared.Fields.{Fields}

@@ -5,8 +5,8 @@ use crate::states;
 use crate::states::FlatReceiver;
 use crate::states::FlatSender;
 use header::CodeAnswer;
-use header::ReadAnswer;
 use list::EntryAnswer;
+use reading::ReadAnswer;
 use receiver::ReceiveAnswer;
 use sender::PutAnswer;
 use sending::NextAnswer;
@@ -80,7 +80,7 @@ pub fn flat_next(given: FlatSender, answer: NextAnswer) -> FlatNext
     match answer {
         NextAnswer::Sent { sender, kind } => FlatNext {
             sender: states::flat_sender(sender),
-            kind: headers::kind_number(kind),
+            kind: header::coding::kind_number(kind),
             refusal: 0,
         },
         NextAnswer::Refused(number) => FlatNext {

@@ -1,14 +1,13 @@
 // A header's fields: bools and the kind are numbers, and a number that stands for none is refused as a field to send (6).
+use counts::Rxfn;
+use counts::Txfn;
 use crate::messages;
 use crate::messages::FlatMessage;
 use fast_channel::FastChannel;
 use header::Fields;
-use header::FrameKind;
 use header::Header;
-use header::Rxfn;
-use header::Txfn;
+use header::coding;
 ghost use mathlib.Core.Path.{_≡_};
-ghost use Rattle.header.specs.Header.{bit, kindNumber, kindOf};
 ghost use Rattle.flat.specs.Headers.{flagsFit, sentMessage, fieldsWhere, fieldsOf, headerOf, flatFields, flatHeader, noHeader};
 
 #[repr(C)]
@@ -78,45 +77,17 @@ pub fn fields_of(fields: FlatFields) -> Fields
     fields_where(true, fields)
 }
 
-fn kind_of(number: u8) -> FrameKind
-    ensures { λ r. ⌜ r ≡ kindOf number ⌝ }
-{
-    match number {
-        0 => FrameKind::Idle,
-        1 => FrameKind::Data,
-        2 => FrameKind::Type2,
-        _ => FrameKind::Type3,
-    }
-}
-
 pub fn header_of(header: FlatHeader) -> Header
     ensures { λ r. ⌜ r ≡ headerOf header ⌝ }
 {
     let number = header.kind;
     let given = header.fields;
     let fields = fields_where(number <= 3, given);
-    let kind = kind_of(number);
+    let kind = reading::kind_of(number);
     Header {
         txfn: Txfn(header.txfn),
         kind,
         fields,
-    }
-}
-
-fn bit_of(flag: bool) -> u8
-    ensures { λ r. ⌜ r ≡ bit flag ⌝ }
-{
-    if flag { 1 } else { 0 }
-}
-
-pub fn kind_number(kind: FrameKind) -> u8
-    ensures { λ r. ⌜ r ≡ kindNumber kind ⌝ }
-{
-    match kind {
-        FrameKind::Idle => 0,
-        FrameKind::Data => 1,
-        FrameKind::Type2 => 2,
-        FrameKind::Type3 => 3,
     }
 }
 
@@ -128,8 +99,8 @@ fn flat_fields(fields: Fields) -> FlatFields
     FlatFields {
         stamp: fields.stamp,
         rxfn: fields.rxfn.0,
-        ack: bit_of(fields.ack),
-        valid: bit_of(fields.valid),
+        ack: coding::bit_of(fields.ack),
+        valid: coding::bit_of(fields.valid),
         seconds: fields.seconds,
         applies: fields.applies,
         message,
@@ -145,7 +116,7 @@ pub fn flat_header(header: Header) -> FlatHeader
     FlatHeader {
         fields,
         txfn: header.txfn.0,
-        kind: kind_number(kind),
+        kind: coding::kind_number(kind),
     }
 }
 

@@ -1,8 +1,6 @@
 // A message of the fast channel: its opcode and up to three numbers. Numbers that a message does not have are 0.
 use fast_channel::FastChannel;
-use fast_channel::Lock;
 ghost use mathlib.Core.Path.{_≡_};
-ghost use Rattle.fast_channel.specs.FastChannel.{lockNumber, lockOf};
 ghost use Rattle.flat.specs.Messages.{firstMost, secondMost, thirdMost, numbersFit, messageOf, flatMessage};
 
 #[repr(C)]
@@ -67,25 +65,6 @@ pub fn numbers_fit(message: FlatMessage) -> bool
     message.third <= third_most(opcode)
 }
 
-fn lock_of(number: u16) -> Lock
-    ensures { λ r. ⌜ r ≡ lockOf number ⌝ }
-{
-    if number == 0 {
-        Lock::NotLocked
-    } else {
-        Lock::Locked
-    }
-}
-
-fn lock_number(lock: Lock) -> u16
-    ensures { λ r. ⌜ r ≡ lockNumber lock ⌝ }
-{
-    match lock {
-        Lock::NotLocked => 0,
-        Lock::Locked => 1,
-    }
-}
-
 // The message, where its numbers fit; a number of one byte is cut off otherwise.
 pub fn message_of(message: FlatMessage) -> FastChannel
     ensures { λ r. ⌜ r ≡ messageOf message ⌝ }
@@ -98,7 +77,7 @@ pub fn message_of(message: FlatMessage) -> FastChannel
         0 => FastChannel::CrcErrors(first),
         1 => FastChannel::ReceivedPower {
             power: first,
-            lock: lock_of(second),
+            lock: fast_channel::lock_of(second),
         },
         2 => FastChannel::PowerStatistics {
             mean: (first % 256) as u8,
@@ -106,7 +85,7 @@ pub fn message_of(message: FlatMessage) -> FastChannel
         },
         3 => FastChannel::SyncLosses {
             losses: first,
-            lock: lock_of(second),
+            lock: fast_channel::lock_of(second),
         },
         4 => FastChannel::PowerRange {
             least: (first % 256) as u8,
@@ -139,14 +118,24 @@ pub fn flat_message(message: FastChannel) -> FlatMessage
 {
     match message {
         FastChannel::CrcErrors(errors) => numbers(0, errors, 0, 0),
-        FastChannel::ReceivedPower { power, lock } => numbers(1, power, lock_number(lock), 0),
+        FastChannel::ReceivedPower { power, lock } => numbers(
+            1,
+            power,
+            fast_channel::lock_number(lock),
+            0,
+        ),
         FastChannel::PowerStatistics { mean, deviation } => numbers(
             2,
             mean as u16,
             deviation as u16,
             0,
         ),
-        FastChannel::SyncLosses { losses, lock } => numbers(3, losses, lock_number(lock), 0),
+        FastChannel::SyncLosses { losses, lock } => numbers(
+            3,
+            losses,
+            fast_channel::lock_number(lock),
+            0,
+        ),
         FastChannel::PowerRange { least, greatest } => numbers(4, least as u16, greatest as u16, 0),
         FastChannel::Version {
             major,

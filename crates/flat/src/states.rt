@@ -1,5 +1,5 @@
 // The two states. Any two numbers are a sender's, which the library judges; numbers that are no receiver's are given a held length that it refuses (3).
-use header::Txfn;
+use counts::Txfn;
 use receiver::Expected;
 use receiver::Receiver;
 use sender::Sender;

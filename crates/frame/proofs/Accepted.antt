@@ -17,8 +17,9 @@ use Rattle.reed_solomon.proofs.Laws.{parity-zeros, true-codeword, of-shorter}
 use Rattle.interleaving.proofs.Interleaved.{true-codewords, codewords-coded}
 use Rattle.scrambler.specs.Scrambler.{tapsAllowed, scrambled}
 use Rattle.scrambler.proofs.Laws.{scrambled-twice, scrambled-bytes}
-use Rattle.header.specs.Header.{headerBytes, headerFits, headerOf, headerRefusal}
-use Rattle.header.proofs.Received.{received-fits, header-again}
+use Rattle.header.specs.Header.{headerBytes, headerFits}
+use Rattle.reading.specs.Reading.{headerOf, headerRefusal}
+use Rattle.reading.proofs.Received.{received-fits, header-again}
 use Rattle.frame.specs.Frame.{codedHeader, areaCheck, areaPayload, frameBytes}
 use Rattle.frame.specs.Opening.{unscrambled, headerPart, areaPart, areaChecked, outerRefusal, payloadRefusal, innerRefusal, openRefusal, openedHeader, openedArea}
 use Rattle.frame.proofs.Laws.{Outer, outer-passed, unscrambled-length}

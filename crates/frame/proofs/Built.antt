@@ -16,10 +16,11 @@ use Rattle.reed_solomon.proofs.Laws.{parity-zeros, codeword-true, coded}
 use Rattle.interleaving.proofs.Interleaved.{codewords-true, coded-codewords, coded-front}
 use Rattle.scrambler.specs.Scrambler.{tapsAllowed, scrambled}
 use Rattle.scrambler.proofs.Laws.{scrambled-twice}
-use Rattle.header.specs.Header.{headerBytes, headerFits, headerOf, headerRefusal}
+use Rattle.header.specs.Header.{headerBytes, headerFits}
+use Rattle.reading.specs.Reading.{headerOf, headerRefusal}
 use Rattle.header.specs.declared.Header.{Header}
 use Rattle.header.proofs.Bytes.{header-length}
-use Rattle.header.proofs.Sent.{sendable, header-back, none-refused}
+use Rattle.reading.proofs.Sent.{sendable, header-back, none-refused}
 use Rattle.frame.specs.Frame.{preamble, codedHeader, areaCheck, areaPayload, frameBytes}
 use Rattle.frame.specs.Opening.{unscrambled, headerPart, areaPart, areaChecked, payloadRefusal, innerRefusal, openRefusal, openedHeader, openedArea}
 use Rattle.frame.proofs.Laws.{payload-length, data-length, coded-header-length, body-length, inner-then, outer-zero}

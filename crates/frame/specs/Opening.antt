@@ -11,7 +11,7 @@ use Rattle.lent.specs.Written.{written}
 use Rattle.reed_solomon.specs.Code.{isCodeword, lengthened}
 use Rattle.interleaving.specs.Payload.{areCodewords}
 use Rattle.scrambler.specs.Scrambler.{tapsAllowed, scrambled}
-use Rattle.header.specs.Header.{headerOf, headerRefusal}
+use Rattle.reading.specs.Reading.{headerOf, headerRefusal}
 use Rattle.header.specs.declared.Header.{Header}
 use Rattle.frame.specs.Frame.{preamble, areaCheck}
 use Rattle.frame.specs.declared.OpenAnswer.{OpenAnswer}

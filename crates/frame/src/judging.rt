@@ -44,7 +44,7 @@ pub fn inner_refusal(body: &[u8]) -> u8
     if !reed_solomon::is_codeword(&body[..32]) {
         return 8;
     }
-    let number = header::reading::header_refusal(&body[..16]);
+    let number = reading::header_refusal(&body[..16]);
     if number != 0 {
         return number;
     }

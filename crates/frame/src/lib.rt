@@ -41,5 +41,5 @@ pub fn open(taps: u32, frame: &[u8], area: &mut [u8]) -> OpenAnswer
         return OpenAnswer::Refused(inner);
     }
     lent::write_at(area, 0, &body[32..1940]);
-    OpenAnswer::Opened(header::reading::header_of(&body[..16]))
+    OpenAnswer::Opened(reading::header_of(&body[..16]))
 }

@@ -1,8 +1,2 @@
-pub mod Theorems
 pub mod Calls
-pub mod Sent
-pub mod Received
-pub mod Bits
-pub mod Numbers
 pub mod Bytes
-pub mod Signed

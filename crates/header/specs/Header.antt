@@ -1,19 +1,16 @@
--- The 16 bytes of a header, d0 to d15 (Tables 2-9 and 2-10; 01, "The frame on the wire"): those that are sent, and what a receiver reads from them.
+-- The 16 bytes of a header, d0 to d15 (Tables 2-9 and 2-10; 01, "The frame on the wire"), and which header may be sent in them.
 use mathlib.Core.Bool.{Bool, cond, _&&_, _||_}
 use mathlib.Core.List.{List, [], _∷_, _++_}
 use Prim.Native.Nat.{ℕ, _+_, _*_, _/_, _%_}
-use lib.Dec.{eqb, leb}
-use lib.ListN.{getD, take}
+use lib.Dec.{eqb}
 use Rattle.crc.specs.Crc.{crc-16}
-use Rattle.basics.specs.Numbers.{fitsBits, lowFirst, numberAt}
-use Rattle.fast_channel.specs.FastChannel.{opcodeOf, payloadOf, messageFits, messageOf, payloadRule}
+use Rattle.basics.specs.Numbers.{fitsBits, lowFirst}
+use Rattle.fast_channel.specs.FastChannel.{opcodeOf, payloadOf, messageFits}
 use Rattle.header.specs.declared.FrameKind.{FrameKind}
 use Rattle.header.specs.declared.FrameKind.the-variants.{Idle, Data, Type2, Type3}
 use Rattle.fast_channel.specs.declared.FastChannel.{FastChannel}
 use Rattle.header.specs.declared.Fields.{Fields}
 use Rattle.header.specs.declared.Header.{Header}
-
--- ---- sent
 
 abbrev pub bit : Bool → ℕ
 bit flag = cond flag 1 0
@@ -67,39 +64,3 @@ fieldsFit fields =
 -- the header may be sent
 abbrev pub headerFits : Header → Bool
 headerFits header = fitsBits 16 (header .txfn .0) && fieldsFit (header .fields)
-
--- ---- received
-
-unfoldable pub kindOf : ℕ → FrameKind
-kindOf number = cond (eqb number 0) Idle (cond (eqb number 1) Data (cond (eqb number 2) Type2 Type3))
-
-unfoldable pub fieldsOf : List ℕ → Fields
-fieldsOf d = record {
-  rxfn = record { 0 = numberAt 2 2 d };
-  ack = eqb (getD d 4 0 / 8 % 2) 1;
-  valid = eqb (getD d 4 0 / 4 % 2) 1;
-  stamp = numberAt 5 5 d;
-  seconds = getD d 10 0 % 64;
-  applies = getD d 11 0 / 16 % 8;
-  message = messageOf (getD d 11 0 % 16) (numberAt 12 2 d);
-}
-
--- the header that 16 bytes hold
-unfoldable pub headerOf : List ℕ → Header
-headerOf d = record { txfn = record { 0 = numberAt 0 2 d }; kind = kindOf (getD d 4 0 % 4); fields = fieldsOf d }
-
--- the CRC-16 is the one that stands in d14 and d15, high byte first
-unfoldable pub sumHolds : List ℕ → Bool
-sumHolds d = eqb (crc-16 (take 14 d)) (256 * getD d 14 0 + getD d 15 0)
-
--- the reserved bits at the top of d4, d10 and d11 are 1
-unfoldable pub reservedOnes : List ℕ → Bool
-reservedOnes d = leb 0xF0 (getD d 4 0) && leb 0xC0 (getD d 10 0) && leb 0x80 (getD d 11 0)
-
--- no field is against its rule
-unfoldable pub rulesHold : List ℕ → Bool
-rulesHold d = rxfnRule (eqb (getD d 4 0 / 4 % 2) 1) (numberAt 2 2 d) && payloadRule (getD d 11 0 % 16) (numberAt 12 2 d)
-
--- the lowest number for which 16 bytes are refused, 0 for none
-unfoldable pub headerRefusal : List ℕ → ℕ
-headerRefusal d = cond (sumHolds d) (cond (reservedOnes d) (cond (rulesHold d) 0 11) 10) 9

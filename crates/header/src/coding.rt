@@ -7,7 +7,7 @@ use crate::FrameKind;
 use crate::Header;
 use fast_channel::FastChannel;
 
-fn kind_number(kind: FrameKind) -> u8
+pub fn kind_number(kind: FrameKind) -> u8
     ensures { λ r. ⌜ r ≡ kindNumber kind ⌝ }
     ensures small { λ r. ⌜ r ≤ 3 ⌝ }
 {
@@ -19,7 +19,7 @@ fn kind_number(kind: FrameKind) -> u8
     }
 }
 
-fn bit_of(flag: bool) -> u8
+pub fn bit_of(flag: bool) -> u8
     ensures { λ r. ⌜ r ≡ bit flag ⌝ }
     ensures small { λ r. ⌜ r ≤ 1 ⌝ }
 {

@@ -3,32 +3,13 @@
 // wire, so that one that is too large can be given.
 ghost use Prim.Native.Nat.{_≤_};
 ghost use lib.ListN.{length};
+use counts::Rxfn;
+use counts::Txfn;
 use crate::messages;
 use crate::messages::Message;
 use header::Fields;
-use header::FrameKind;
 use header::Header;
-use header::Rxfn;
-use header::Txfn;
 use vectors::numbers;
-
-pub fn kind_number(kind: FrameKind) -> u8 {
-    match kind {
-        FrameKind::Idle => 0,
-        FrameKind::Data => 1,
-        FrameKind::Type2 => 2,
-        FrameKind::Type3 => 3,
-    }
-}
-
-fn kind_of(number: u8) -> FrameKind {
-    match number {
-        0 => FrameKind::Idle,
-        1 => FrameKind::Data,
-        2 => FrameKind::Type2,
-        _ => FrameKind::Type3,
-    }
-}
 
 // The 16-bit number of two bytes.
 pub fn number_of(high: u8, low: u8) -> u16 {
@@ -56,7 +37,7 @@ pub fn bytes(header: Header) -> [u8; 24] {
     [
         txfn[0],
         txfn[1],
-        kind_number(kind),
+        header::coding::kind_number(kind),
         rxfn[0],
         rxfn[1],
         fields.ack as u8,
@@ -92,7 +73,7 @@ fn message_of(bytes: &[u8; 24]) -> Message {
 
 // The header of 24 bytes.
 pub fn header(bytes: &[u8; 24]) -> Header {
-    let kind = kind_of(bytes[2]);
+    let kind = reading::kind_of(bytes[2]);
     let message = messages::channel(message_of(bytes));
     let fields = Fields {
         rxfn: Rxfn(number_of(bytes[3], bytes[4])),

@@ -1,14 +1,14 @@
 // The kinds of record that try the level and the bare header.
 use crate::fields;
 use header::CodeAnswer;
-use header::ReadAnswer;
+use reading::ReadAnswer;
 use vectors::numbers;
 use vectors::outcome;
 use vectors::outcome::Outcome;
 
 // How far the level of a code lies below 0.
 fn below_zero(code: u8) -> u32 {
-    (0 - header::level(code)) as u32
+    (0 - level::level(code)) as u32
 }
 
 // A code, and how far its level lies below 0, in four bytes.
@@ -59,6 +59,6 @@ pub fn read(body: &[u8]) -> Outcome {
         return Outcome::Malformed;
     }
     let end = body.len() - 25;
-    let found = read_bytes(header::read_header(&body[0..end]));
+    let found = read_bytes(reading::read_header(&body[0..end]));
     outcome::of(&found, &body[end..])
 }

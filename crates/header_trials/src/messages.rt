@@ -1,6 +1,5 @@
 // A fast-channel message as the vectors hold it: its kind, 0 to 8, and three numbers, 0 where it has fewer.
 use fast_channel::FastChannel;
-use fast_channel::Lock;
 
 pub struct Message {
     pub kind: u8,
@@ -20,21 +19,6 @@ impl Message {
     }
 }
 
-fn lock_number(lock: Lock) -> u16 {
-    match lock {
-        Lock::NotLocked => 0,
-        Lock::Locked => 1,
-    }
-}
-
-fn lock_of(number: u16) -> Lock {
-    if number == 0 {
-        Lock::NotLocked
-    } else {
-        Lock::Locked
-    }
-}
-
 fn wide(byte: u8) -> u16 {
     byte as u16
 }
@@ -46,11 +30,21 @@ fn low(number: u16) -> u8 {
 pub fn numbers(channel: FastChannel) -> Message {
     match channel {
         FastChannel::CrcErrors(errors) => Message::new(0, errors, 0, 0),
-        FastChannel::ReceivedPower { power, lock } => Message::new(1, power, lock_number(lock), 0),
+        FastChannel::ReceivedPower { power, lock } => Message::new(
+            1,
+            power,
+            fast_channel::lock_number(lock),
+            0,
+        ),
         FastChannel::PowerStatistics { mean, deviation } => {
             Message::new(2, wide(mean), wide(deviation), 0)
         }
-        FastChannel::SyncLosses { losses, lock } => Message::new(3, losses, lock_number(lock), 0),
+        FastChannel::SyncLosses { losses, lock } => Message::new(
+            3,
+            losses,
+            fast_channel::lock_number(lock),
+            0,
+        ),
         FastChannel::PowerRange { least, greatest } => Message::new(
             4,
             wide(least),
@@ -78,7 +72,7 @@ pub fn channel(message: Message) -> FastChannel {
         0 => FastChannel::CrcErrors(first),
         1 => FastChannel::ReceivedPower {
             power: first,
-            lock: lock_of(second),
+            lock: fast_channel::lock_of(second),
         },
         2 => FastChannel::PowerStatistics {
             mean: low(first),
@@ -86,7 +80,7 @@ pub fn channel(message: Message) -> FastChannel {
         },
         3 => FastChannel::SyncLosses {
             losses: first,
-            lock: lock_of(second),
+            lock: fast_channel::lock_of(second),
         },
         4 => FastChannel::PowerRange {
             least: low(first),

@@ -1,11 +1,11 @@
 // Parts of the work on a frame, for C to call: bench/run counts the instructions of each. The library's own calls for C stand in `taqwelim`.
+use counts::Rxfn;
+use counts::Txfn;
 use fast_channel::FastChannel;
 use frame::OpenAnswer;
 use header::Fields;
 use header::FrameKind;
 use header::Header;
-use header::Rxfn;
-use header::Txfn;
 ghost use mathlib.Core.Path.{_≡_};
 ghost use Rattle.crc.specs.Crc.{crc-32};
 ghost use Rattle.scrambler.specs.Scrambler.{scrambled};
@@ -39,17 +39,11 @@ pub extern "C" fn part_write_parity(payload: &mut [u8])
     interleaving::write_parity(payload);
 }
 
-fn bit_of(flag: bool) -> u8
-    ensures { λ r. ⌜ r ≡ bit flag ⌝ }
-{
-    if flag { 1 } else { 0 }
-}
-
 #[no_mangle]
 pub extern "C" fn part_are_codewords(payload: &[u8]) -> u8
     ensures { λ r. ⌜ r ≡ bit (areCodewords (now (payload .entry))) ⌝ }
 {
-    bit_of(interleaving::are_codewords(payload))
+    header::coding::bit_of(interleaving::are_codewords(payload))
 }
 
 // DATA, frame 0, and nothing else to tell.

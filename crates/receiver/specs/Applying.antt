@@ -13,7 +13,7 @@ use Rattle.lent.specs.Written.{written}
 use Rattle.header.specs.declared.FrameKind.{FrameKind}
 use Rattle.header.specs.declared.FrameKind.the-variants.{Idle, Data, Type2, Type3}
 use Rattle.header.specs.declared.Header.{Header}
-use Rattle.header.specs.declared.Txfn.{Txfn}
+use Rattle.counts.specs.declared.Txfn.{Txfn}
 use Rattle.link.specs.Link as link
 use Rattle.link.specs.Packing.{receiveRead}
 use Rattle.joining.specs.Joining.{piecesRefusal, listBytes}

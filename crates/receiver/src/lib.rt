@@ -1,8 +1,8 @@
 // The receiver: packets come out of arriving frames whole and in their turn, or not at all, and the frames missed are counted (01, "Receiving").
+use counts::Txfn;
 use frame::OpenAnswer;
 use header::FrameKind;
 use header::Header;
-use header::Txfn;
 use joining::Joined;
 ghost use mathlib.Core.Path.{_≡_};
 ghost use mathlib.Core.Bool.{cond};

@@ -2,7 +2,7 @@
 // held 8.
 ghost use Prim.Native.Nat.{_≤_};
 ghost use lib.ListN.{length};
-use header::Txfn;
+use counts::Txfn;
 use header_trials::fields;
 use receiver::Expected;
 use receiver::ReceiveAnswer;

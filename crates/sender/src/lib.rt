@@ -1,5 +1,5 @@
 // The sender: packets are put into a lent queue of 32,768 bytes (01, "Queue").
-use header::Txfn;
+use counts::Txfn;
 ghost use mathlib.Core.Path.{_≡_};
 ghost use Rattle.sender.specs.Put.{freshSender, putRefusal, PutOutcome};
 

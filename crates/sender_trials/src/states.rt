@@ -1,7 +1,7 @@
 // States and answers of the sender as the vectors hold them. A state is 10 bytes: the used bytes of the queue 8, the number of the next frame 2.
 ghost use Prim.Native.Nat.{_≤_};
 ghost use lib.ListN.{length};
-use header::Txfn;
+use counts::Txfn;
 use header_trials::fields;
 use sender::PutAnswer;
 use sender::Sender;
@@ -52,7 +52,7 @@ pub fn put_answer(found: PutAnswer, given: Sender) -> [u8; 12] {
 // What next_frame answers.
 pub fn next_answer(found: NextAnswer, given: Sender) -> [u8; 12] {
     match found {
-        NextAnswer::Sent { sender, kind } => answer(0, fields::kind_number(kind), sender),
+        NextAnswer::Sent { sender, kind } => answer(0, header::coding::kind_number(kind), sender),
         NextAnswer::Refused(number) => answer(number, 0, given),
     }
 }

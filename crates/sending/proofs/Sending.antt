@@ -20,7 +20,7 @@ use Rattle.packing.proofs.Filling.{fill-cut}
 use Rattle.scrambler.specs.Scrambler.{tapsAllowed}
 use Rattle.header.specs.Header.{fieldsFit}
 use Rattle.header.specs.declared.Fields.{Fields}
-use Rattle.header.specs.declared.Txfn.{Txfn}
+use Rattle.counts.specs.declared.Txfn.{Txfn}
 use Rattle.header.specs.declared.FrameKind.{FrameKind}
 use Rattle.header.specs.declared.FrameKind.the-variants.{Idle, Data}
 use Rattle.marks.specs.Queue.{isUsedWhole, queueIn}

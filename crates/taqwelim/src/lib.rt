@@ -15,7 +15,8 @@ use flat::states::FlatSender;
 use receiver::Receiver;
 use sender::Sender;
 ghost use mathlib.Core.Path.{_≡_};
-ghost use Rattle.header.specs.Calls.{readHeader, levelOf};
+ghost use Rattle.reading.specs.Reading.{readHeader};
+ghost use Rattle.level.specs.Level.{levelOf};
 ghost use Rattle.list.specs.Reading.{entryAnswer};
 ghost use Rattle.receiver.specs.Applying.{freshReceiver};
 ghost use Rattle.sender.specs.Put.{freshSender};
@@ -112,12 +113,12 @@ pub extern "C" fn taqwelim_code_header(header: FlatHeader, out: &mut [u8]) -> u8
 pub extern "C" fn taqwelim_read_header(bytes: &[u8]) -> FlatRead
     ensures { λ r. ⌜ r ≡ flatRead (readHeader (now (bytes .entry))) ⌝ }
 {
-    answers::flat_read(header::read_header(bytes))
+    answers::flat_read(reading::read_header(bytes))
 }
 
 #[no_mangle]
 pub extern "C" fn taqwelim_level(code: u8) -> i32
     ensures { λ r. ⌜ r ≡ levelOf code ⌝ }
 {
-    header::level(code)
+    level::level(code)
 }

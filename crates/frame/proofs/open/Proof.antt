@@ -5,7 +5,7 @@ use Rattle.lent.specs.Written.{written}
 use Rattle.frame.specs.Opening.{unscrambled, innerRefusal, openedHeader, openedArea, headerPart, areaPart}
 use lib.Seq.{length-take-le}
 use Rattle.lent.proofs.Outcome.{refused, kept, accepted}
-use Rattle.header.specs.Header.{headerOf}
+use Rattle.reading.specs.Reading.{headerOf}
 use Rattle.frame.specs.declared.OpenAnswer.the-variants.{Opened, Refused}
 use Rattle.frame.proofs.Laws.{outer-first, inner-then, outer-passed, unscrambled-length}
 use borrow.Author.Needs.{needs}

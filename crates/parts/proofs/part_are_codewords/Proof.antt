@@ -14,7 +14,7 @@ returns : tie.Need-returns
 returns c =
     let at-bit-of = c .bit-of in
     let at-are-codewords = c .before .are-codewords in
-    (at-bit-of .ensures) ∙ ap bit (at-are-codewords .ensures)
+    (at-bit-of .ensures .0) ∙ ap bit (at-are-codewords .ensures)
 
 pub part-are-codewords-spec : {M : Type 1} → statement M
 part-are-codewords-spec = tie.close (tie.spec are-codewords-requires bit-of-requires returns)

@@ -19,7 +19,7 @@ returns c =
     let at-answer = c .before .before .before .answer in
     let at-flat-sender = c .before .flat-sender in
     let at-kind-number = c .kind-number in
-    simp (at-answer .given .1, at-flat-sender .ensures, at-kind-number .ensures)
+    simp (at-answer .given .1, at-flat-sender .ensures, at-kind-number .ensures .0)
 
 returns-2 : tie.Need-returns-2
 returns-2 c =

@@ -16,7 +16,7 @@ returns c =
     let at-flat-message = c .before .before .flat-message in
     let at-bit-of = c .before .bit-of in
     let at-bit-of2 = c .bit-of2 in
-    simp (at-flat-message .ensures, at-bit-of .ensures, at-bit-of2 .ensures)
+    simp (at-flat-message .ensures, at-bit-of .ensures .0, at-bit-of2 .ensures .0)
 
 pub flat-fields-spec : {M : Type 1} → statement M
 flat-fields-spec =

@@ -12,7 +12,7 @@ returns : tie.Need-returns
 returns c =
     let at-flat-fields = c .before .flat-fields in
     let at-kind-number = c .kind-number in
-    simp (at-flat-fields .ensures, at-kind-number .ensures)
+    simp (at-flat-fields .ensures, at-kind-number .ensures .0)
 
 pub flat-header-spec : {M : Type 1} → statement M
 flat-header-spec = tie.close (tie.spec flat-fields-requires kind-number-requires returns)

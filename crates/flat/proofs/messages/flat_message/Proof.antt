@@ -94,7 +94,7 @@ returns-2 c =
     let at-message2 = c .before .before .before .message2 in
     let at-numbers2 = c .numbers2 in
     let at-lock-number = c .before .lock-number in
-    simp (at-message2 .given .1, at-numbers2 .ensures, at-lock-number .ensures)
+    simp (at-message2 .given .1, at-numbers2 .ensures, at-lock-number .ensures .0)
 
 returns-3 : tie.Need-returns-3
 returns-3 c =
@@ -107,7 +107,7 @@ returns-4 c =
     let at-message4 = c .before .before .before .message4 in
     let at-numbers4 = c .numbers4 in
     let at-lock-number2 = c .before .lock-number2 in
-    simp (at-message4 .given .1, at-numbers4 .ensures, at-lock-number2 .ensures)
+    simp (at-message4 .given .1, at-numbers4 .ensures, at-lock-number2 .ensures .0)
 
 returns-5 : tie.Need-returns-5
 returns-5 c =

@@ -1,0 +1,6 @@
+pub mod Theorems
+pub mod Calls
+pub mod Sent
+pub mod Received
+pub mod Bits
+pub mod Numbers

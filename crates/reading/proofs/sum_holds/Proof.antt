@@ -1,0 +1,44 @@
+use mathlib.Core.Path.{sym}
+use native.Mathlib.Omega.{arith}
+use lib.Seq.{length-take-le}
+use native.Mathlib.Nat.{add-comm}
+use Rattle.reading.specs.Reading.{sumHolds}
+use borrow.Author.Needs.{needs}
+use Rattle.reading.proofs.sum_holds.Statement.{statement}
+use Rattle.reading.proofs.sum_holds.Tie as tie
+
+slice-aggregate-crc-16 : tie.Need-slice-aggregate-crc-16
+unfolding sumHolds
+slice-aggregate-crc-16 c =
+    let at-args = c .before .before .args in
+    sym (length-take-le 14 (at-args .bytes .now) (omega arith))
+
+crc-16-requires : tie.Need-crc-16-requires
+crc-16-requires c κs = search needs
+
+shared-slice-read-two-bytes : tie.Need-shared-slice-read-two-bytes
+shared-slice-read-two-bytes c = search needs
+
+shared-slice-read-two-bytes-2 : tie.Need-shared-slice-read-two-bytes-2
+shared-slice-read-two-bytes-2 c = search needs
+
+two-bytes-requires : tie.Need-two-bytes-requires
+two-bytes-requires c κs = search needs
+
+returns : tie.Need-returns
+unfolding sumHolds
+returns c =
+    let at-crc-16 = c .before .before .before .crc-16 in
+    let at-two-bytes = c .two-bytes in
+    simp (at-crc-16 .ensures, at-two-bytes .ensures, add-comm)
+
+pub sum-holds-spec : {M : Type 1} → statement M
+sum-holds-spec =
+    tie.close
+    (tie.spec
+    slice-aggregate-crc-16
+    crc-16-requires
+    shared-slice-read-two-bytes
+    shared-slice-read-two-bytes-2
+    two-bytes-requires
+    returns)
