@@ -7,7 +7,7 @@ use crate::states::FlatSender;
 use header::CodeAnswer;
 use header::ReadAnswer;
 use list::EntryAnswer;
-use receiver::ReceiveAnswer;
+use receiving::ReceiveAnswer;
 use sender::NextAnswer;
 use sender::PutAnswer;
 ghost use mathlib.Core.Path.{_≡_};
