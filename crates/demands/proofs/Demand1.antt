@@ -32,10 +32,10 @@ use Rattle.sending.specs.Next.{nextRefusal, NextOutcome}
 use Rattle.sender.specs.declared.PutAnswer.the-variants as putting
 use Rattle.sending.specs.declared.NextAnswer.the-variants as sending
 use Rattle.receiver.specs.Applying.{standing, piecesOf, received, numberOf, buffersRefusal, applyRefusal, ApplyOutcome}
-use Rattle.receiver.specs.Receiving.{argumentRefusal, frameRefusal, receiveRefusal, ReceiveOutcome}
+use Rattle.receiving.specs.Receiving.{argumentRefusal, frameRefusal, receiveRefusal, ReceiveOutcome}
 use Rattle.receiver.specs.declared.Receiver.{Receiver}
 use Rattle.receiver.specs.declared.ApplyAnswer.the-variants as applying
-use Rattle.receiver.specs.declared.ReceiveAnswer.the-variants as receiving
+use Rattle.receiving.specs.declared.ReceiveAnswer.the-variants as receiving
 use Rattle.list.specs.Reading.{lengthAt, entryRefusal, entryAnswer, packetAt, placeAt}
 use Rattle.list.specs.declared.EntryAnswer.{EntryAnswer}
 use Rattle.list.specs.declared.EntryAnswer.the-variants as listing

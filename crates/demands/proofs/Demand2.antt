@@ -46,9 +46,9 @@ use Rattle.sender.specs.declared.Sender.{Sender}
 use Rattle.sending.specs.declared.NextAnswer.the-variants.{Sent, Refused}
 use Rattle.sending.proofs.Sending.{next-passed}
 use Rattle.receiver.specs.Applying.{standing, isData, piecesOf, received, numberOf, buffersRefusal}
-use Rattle.receiver.specs.Receiving.{argumentRefusal, frameRefusal, receiveRefusal}
+use Rattle.receiving.specs.Receiving.{argumentRefusal, frameRefusal, receiveRefusal}
 use Rattle.receiver.specs.declared.Receiver.{Receiver}
-use Rattle.receiver.proofs.Opened.{argument-passed}
+use Rattle.receiving.proofs.Opened.{argument-passed}
 use Rattle.demands.specs.Demand2.{SentFrame, Arguments, Acceptable, Demand2}
 
 -- a frame that may be built has 2,081 bytes

@@ -11,11 +11,11 @@ use Rattle.frame.specs.Opening.{openedHeader, openedArea}
 use Rattle.list.specs.Reading.{packetsRead}
 use Rattle.list.proofs.Whole.{list-read}
 use Rattle.receiver.specs.declared.Receiver.{Receiver}
-use Rattle.receiver.specs.declared.ReceiveAnswer.the-variants.{Received}
+use Rattle.receiving.specs.declared.ReceiveAnswer.the-variants.{Received}
 use Rattle.receiver.specs.Applying.{packetsOf, listOf}
-use Rattle.receiver.specs.Receiving.{outcome, receiveRefusal, ReceiveOutcome}
+use Rattle.receiving.specs.Receiving.{outcome, receiveRefusal, ReceiveOutcome}
 use Rattle.receiver.proofs.Applying.{received-packets}
-use Rattle.receiver.proofs.Receiving.{receive-numbers}
+use Rattle.receiving.proofs.Receiving.{receive-numbers}
 
 pub receive-read : (taps : ℕ) (frame : List ℕ) (receiver : Receiver) (hold list : List ℕ) (header : Header) (missed packets listed : ℕ) (after : Receiver) (hold′ list′ : List ℕ)
     → ReceiveOutcome taps frame receiver hold list (Received header missed packets listed after) hold′ list′

@@ -28,15 +28,15 @@ use Rattle.link.proofs.Reassembly.{Filled, AllFilled}
 use Rattle.packing.specs.Reading.{read}
 use Rattle.packing.proofs.Bench.{bench}
 use Rattle.packing.proofs.Reading.{read-shape}
-use Rattle.joining.specs.Joining.{listBytes}
-use Rattle.receiver.specs.Applying.{freshReceiver, standing, received, numberOf, missedOf, packetsOf, receiverAfter, listOf, buffersRefusal}
-use Rattle.receiver.specs.Receiving.{argumentRefusal, frameRefusal, receiveRefusal, ReceiveOutcome}
+use Rattle.link.specs.Store.{layoutPackets}
+use Rattle.receiver.specs.Applying.{freshReceiver, standing, received, numberOf, missedOf, packetsOf, steppedReceiver, listOf, buffersRefusal}
+use Rattle.receiving.specs.Receiving.{argumentRefusal, frameRefusal, receiveRefusal, ReceiveOutcome, receiverAfter}
 use Rattle.receiver.specs.declared.Receiver.{Receiver}
-use Rattle.receiver.specs.declared.ReceiveAnswer.{ReceiveAnswer}
-use Rattle.receiver.specs.declared.ReceiveAnswer.the-variants as answer
+use Rattle.receiving.specs.declared.ReceiveAnswer.{ReceiveAnswer}
+use Rattle.receiving.specs.declared.ReceiveAnswer.the-variants as answer
 use Rattle.list.specs.Reading.{packetsRead}
 use Rattle.list.proofs.Whole.{list-read}
-use Rattle.demands.specs.Demand3.{Fate, missing, arrives, damaged, receiveLeaves, ReceiverCalls, marks, readOut, learnedFrom, learned}
+use Rattle.demands.specs.Demand3.{Fate, missing, arrives, damaged, ReceiverCalls, marks, readOut, learnedFrom, learned}
 use Rattle.demands.proofs.Demand1.{every-call-holds}
 use Rattle.demands.proofs.Demand2.{built-size}
 use Rattle.demands.proofs.Sender.{Sends, AllSend, number-is, pieces-are}
@@ -85,7 +85,7 @@ module _ (taps : ℕ) (frame : List ℕ) (receiver : Receiver) (hold list : List
   number = receiveRefusal taps frame receiver hold list
 
   abbrev taking : link.Received → ReceiveAnswer
-  taking c = answer.Received header (missedOf (c .answer)) (length (packetsOf (c .answer))) (length (listOf c)) (receiverAfter header c)
+  taking c = answer.Received header (missedOf (c .answer)) (length (packetsOf (c .answer))) (length (listOf c)) (steppedReceiver header c)
 
   -- it is accepted
   taken-answer : (c : link.Received) → comes ≡ c → number ≡ 0 → r ≡ taking c
@@ -112,7 +112,7 @@ refused-hold taps frame receiver hold list number hold′ list′ o =
 -- what the caller learns, and what state and hold stand for after it, are what `Link` says
 pub record Takes (receiver : Receiver) (r : ReceiveAnswer) (hold′ list′ : List ℕ) (c : link.Received) : Type 0 where
   pub learns : learnedFrom r list′ ≡ c .answer
-  pub holds : Holds (receiveLeaves receiver r) hold′ (c .state)
+  pub holds : Holds (receiverAfter receiver r) hold′ (c .state)
 
 module _ (taps : ℕ) (frame : List ℕ) (receiver : Receiver) (hold list : List ℕ) (r : ReceiveAnswer) (hold′ list′ : List ℕ)
     (o : ReceiveOutcome taps frame receiver hold list r hold′ list′) (allowed : tapsAllowed taps ≡ true) (room : 10907 ≤ length list)
@@ -189,7 +189,7 @@ module _ (taps : ℕ) (frame : List ℕ) (receiver : Receiver) (hold list : List
         taken-list taps frame receiver hold list r hold′ list′ o accepting whole z,
       )
       (record {
-        learns = ap (λ (l : List ℕ). readOut count (packetsRead l)) (written-front list (listBytes out) (length (listBytes out)) refl)
+        learns = ap (λ (l : List ℕ). readOut count (packetsRead l)) (written-front list (layoutPackets out) (length (layoutPackets out)) refl)
             ∙ ap (readOut count) (list-read out (out-packets held pieces filled (shaped taps s) e));
         holds = record {
           stands = λ j. record { expected = some (nextTxfn (number-is taps s j)); held = written-front hold held′ (length held′) refl j };
@@ -250,5 +250,5 @@ module _ (taps : ℕ) (allowed : tapsAllowed taps ≡ true) (mark : ℕ → Mark
       let m = marks (arrives list r left after ∷ fates) in
       let t = receives taps frame receiver hold list r left after (d .1) allowed (d .0) i pieces (c .0) (f .0) model h in
       let said = receive model (i % 65536) pieces in
-      let ih = hears fates (suc i) (receiveLeaves receiver r) left (said .state) frames more (then i m e) (t .holds) (c .1) (f .1) (d .2) in
+      let ih = hears fates (suc i) (receiverAfter receiver r) left (said .state) frames more (then i m e) (t .holds) (c .1) (f .1) (d .2) in
       rw (now i m e, t .learns) (ap (λ (l : List Answer). said .answer ∷ l) ih)

@@ -38,10 +38,10 @@ use Rattle.sender.proofs.Stands.{Stands, fresh-stands}
 use Rattle.sender.proofs.Putting.{put-stands}
 use Rattle.sending.proofs.Carried.{next-stands}
 use Rattle.receiver.specs.Applying.{received, numberOf}
-use Rattle.receiver.specs.Receiving.{argumentRefusal, frameRefusal, receiveRefusal, ReceiveOutcome}
+use Rattle.receiving.specs.Receiving.{argumentRefusal, frameRefusal, receiveRefusal, ReceiveOutcome, receiverAfter}
 use Rattle.receiver.specs.declared.Receiver.{Receiver}
-use Rattle.receiver.specs.declared.ReceiveAnswer.the-variants as receiving
-use Rattle.demands.specs.Demand3.{SenderCall, callPut, callNext, SenderCalls, Fate, missing, arrives, damaged, receiveLeaves, ReceiverCalls, marks}
+use Rattle.receiving.specs.declared.ReceiveAnswer.the-variants as receiving
+use Rattle.demands.specs.Demand3.{SenderCall, callPut, callNext, SenderCalls, Fate, missing, arrives, damaged, ReceiverCalls, marks}
 use Rattle.demands.proofs.Demand1.{every-call-holds}
 
 -- ---- what a frame leaves takes no more bytes than there were
@@ -202,7 +202,7 @@ module _ (taps : ℕ) (list : List ℕ) (room : 10907 ≤ length list) where
   fatesOf receiver hold (lose ∷ ways) (frame ∷ frames) = missing ∷ fatesOf receiver hold ways frames
   fatesOf receiver hold (pass ∷ ways) (frame ∷ frames) =
       let called = every-call-holds .receive taps frame receiver hold list .answered in
-      arrives list (called .0) (called .1 .0 .0) (called .1 .0 .1) ∷ fatesOf (receiveLeaves receiver (called .0)) (called .1 .0 .0) ways frames
+      arrives list (called .0) (called .1 .0 .0) (called .1 .0 .1) ∷ fatesOf (receiverAfter receiver (called .0)) (called .1 .0 .0) ways frames
   fatesOf receiver hold (spoil other differs ∷ ways) (frame ∷ frames) =
       damaged other list (receiveRefusal taps other receiver hold list) hold list ∷ fatesOf receiver hold ways frames
 
@@ -229,7 +229,7 @@ module _ (taps : ℕ) (list : List ℕ) (room : 10907 ≤ length list) where
   all-met (lose ∷ ways) receiver hold (frame ∷ frames) = all-met ways receiver hold frames
   all-met (pass ∷ ways) receiver hold (frame ∷ frames) =
       let called = every-call-holds .receive taps frame receiver hold list .answered in
-      (room, called .1 .1, all-met ways (receiveLeaves receiver (called .0)) (called .1 .0 .0) frames)
+      (room, called .1 .1, all-met ways (receiverAfter receiver (called .0)) (called .1 .0 .0) frames)
   all-met (spoil other differs ∷ ways) receiver hold (frame ∷ frames) = (spoiled-call other receiver hold differs, all-met ways receiver hold frames)
 
 -- few frames are within the limit

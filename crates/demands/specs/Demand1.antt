@@ -27,12 +27,12 @@ use Rattle.sender.specs.declared.PutAnswer.the-variants as putting
 use Rattle.sending.specs.declared.NextAnswer.{NextAnswer}
 use Rattle.sending.specs.declared.NextAnswer.the-variants as sending
 use Rattle.receiver.specs.Applying.{ApplyOutcome}
-use Rattle.receiver.specs.Receiving.{ReceiveOutcome}
+use Rattle.receiving.specs.Receiving.{ReceiveOutcome}
 use Rattle.receiver.specs.declared.Receiver.{Receiver}
 use Rattle.receiver.specs.declared.ApplyAnswer.{ApplyAnswer}
 use Rattle.receiver.specs.declared.ApplyAnswer.the-variants as applying
-use Rattle.receiver.specs.declared.ReceiveAnswer.{ReceiveAnswer}
-use Rattle.receiver.specs.declared.ReceiveAnswer.the-variants as receiving
+use Rattle.receiving.specs.declared.ReceiveAnswer.{ReceiveAnswer}
+use Rattle.receiving.specs.declared.ReceiveAnswer.the-variants as receiving
 use Rattle.list.specs.Reading.{entryAnswer, PacketOutcome}
 use Rattle.list.specs.declared.EntryAnswer.{EntryAnswer}
 use Rattle.list.specs.declared.EntryAnswer.the-variants as listing

@@ -32,7 +32,7 @@ use Rattle.sending.specs.Next.{NextOutcome}
 use Rattle.sender.specs.declared.Sender.{Sender}
 use Rattle.sending.specs.declared.NextAnswer.the-variants.{Sent}
 use Rattle.receiver.specs.Applying.{expectedNumber, isData}
-use Rattle.receiver.specs.Receiving.{receiveRefusal}
+use Rattle.receiving.specs.Receiving.{receiveRefusal}
 use Rattle.receiver.specs.declared.Receiver.{Receiver}
 
 -- ---------------------------------------------------------------- what next_frame sends, for a queue

@@ -25,10 +25,10 @@ use Rattle.sender.specs.declared.PutAnswer.the-variants as put
 use Rattle.sending.specs.declared.NextAnswer.{NextAnswer}
 use Rattle.sending.specs.declared.NextAnswer.the-variants as next
 use Rattle.receiver.specs.Applying.{freshReceiver, piecesOf}
-use Rattle.receiver.specs.Receiving.{ReceiveOutcome}
+use Rattle.receiving.specs.Receiving.{ReceiveOutcome, receiverAfter}
 use Rattle.receiver.specs.declared.Receiver.{Receiver}
-use Rattle.receiver.specs.declared.ReceiveAnswer.{ReceiveAnswer}
-use Rattle.receiver.specs.declared.ReceiveAnswer.the-variants as receive
+use Rattle.receiving.specs.declared.ReceiveAnswer.{ReceiveAnswer}
+use Rattle.receiving.specs.declared.ReceiveAnswer.the-variants as receive
 use Rattle.list.specs.Reading.{packetsRead}
 
 -- ---------------------------------------------------------------- the sender's calls, refused ones among them
@@ -88,10 +88,6 @@ pub data Fate : Type 0 where
   arrives : (list : List ℕ) (answer : ReceiveAnswer) (hold after : List ℕ) → Fate
   damaged : (other list : List ℕ) (number : ℕ) (hold after : List ℕ) → Fate
 
-abbrev pub receiveLeaves : Receiver → ReceiveAnswer → Receiver
-receiveLeaves receiver (receive.Received header missed packets listed after) = after
-receiveLeaves receiver (receive.Refused number) = receiver
-
 -- The frames come in the order in which they were sent, once each, and nothing else comes. Each call meets its contract, given the state and the hold that
 -- the call before it left, and a list buffer of the listed size. Frames past the end of the fates have not come yet.
 abbrev pub ReceiverCalls : ℕ → Receiver → List ℕ → List Fate → List (List ℕ) → Type 0
@@ -99,7 +95,7 @@ ReceiverCalls taps receiver hold [] frames = Unit {0}
 ReceiverCalls taps receiver hold (fate ∷ fates) [] = ⊥
 ReceiverCalls taps receiver hold (missing ∷ fates) (frame ∷ frames) = ReceiverCalls taps receiver hold fates frames
 ReceiverCalls taps receiver hold (arrives list answer left after ∷ fates) (frame ∷ frames) =
-    (10907 ≤ length list) × ReceiveOutcome taps frame receiver hold list answer left after × ReceiverCalls taps (receiveLeaves receiver answer) left fates frames
+    (10907 ≤ length list) × ReceiveOutcome taps frame receiver hold list answer left after × ReceiverCalls taps (receiverAfter receiver answer) left fates frames
 ReceiverCalls taps receiver hold (damaged other list number left after ∷ fates) (frame ∷ frames) =
     ReceiveOutcome taps other receiver hold list (receive.Refused number) left after × ReceiverCalls taps receiver left fates frames
 

@@ -4,7 +4,7 @@ ghost use lib.ListN.{length};
 use crate::session::Session;
 use crate::session::TAPS;
 use list::EntryAnswer;
-use receiver::ReceiveAnswer;
+use receiving::ReceiveAnswer;
 use report::line;
 use scenario::beam;
 use scenario::beam::Fate;
@@ -90,7 +90,7 @@ fn arrive(
     out: &mut [u8],
 ) -> Session {
     let receiver = session.receiver;
-    match receiver::receive(TAPS, arrived, receiver, hold, list) {
+    match receiving::receive(TAPS, arrived, receiver, hold, list) {
         ReceiveAnswer::Received {
             header,
             missed,

@@ -11,7 +11,7 @@ use lib.ListN.{length, take, drop, length-append, length-drop}
 use lib.Seq.{getD-drop, drop-drop, take-append-le, drop-append-le}
 use borrow.Author.Tests.{lt-ltb, le-ltb}
 use Rattle.link.specs.Link.{Packet, ArePackets, Queue, IsRest, IsQueue, cutNothing}
-use Rattle.link.specs.Store.{marked, layoutWaiting, layoutRest, layout, markAt}
+use Rattle.link.specs.Store.{marked, layoutPackets, layoutRest, layout, markAt}
 use Rattle.link.proofs.Store.{mark-back, markFrom}
 use Rattle.packing.specs.Rules.{shortest}
 use Rattle.packing.specs.Filling.{fillFront, fillWaiting, fill}
@@ -27,7 +27,7 @@ pub record Front (q : Queue) : Type 0 where
   pub low : 1 ≤ length bytes
   pub high : length bytes ≤ 9000
   pub others : ArePackets packets
-  pub lays : layout q ≡ marked (frontMark first (length bytes)) (bytes ++ layoutWaiting packets)
+  pub lays : layout q ≡ marked (frontMark first (length bytes)) (bytes ++ layoutPackets packets)
   pub fills : (room : ℕ) → fill room q ≡ cond (leb shortest room)
       (fillFront room first bytes packets (fillWaiting (room - (2 + length bytes)) packets))
       (cutNothing (q .rest) (q .waiting))
@@ -36,7 +36,7 @@ pub front : (q : Queue) → IsQueue q → 0 < length (layout q) → Front q
 unfolding layout fillWaiting
 front q h = go (q .rest) (q .waiting) (h .0) (h .1)
   where
-    go : (rest : Option (List ℕ)) (ps : List Packet) → IsRest rest → ArePackets ps → 0 < length (layoutRest rest ++ layoutWaiting ps)
+    go : (rest : Option (List ℕ)) (ps : List Packet) → IsRest rest → ArePackets ps → 0 < length (layoutRest rest ++ layoutPackets ps)
         → Front (record { rest = rest; waiting = ps })
     go none [] r a l = absurd (omega arith)
     go none (p ∷ ps) r a l =
@@ -49,7 +49,7 @@ pub nothing : (room : ℕ) (q : Queue) → length (layout q) ≡ 0 → fill room
 unfolding layout fillWaiting
 nothing room q = go (q .rest) (q .waiting)
   where
-    go : (rest : Option (List ℕ)) (ps : List Packet) → length (layoutRest rest ++ layoutWaiting ps) ≡ 0
+    go : (rest : Option (List ℕ)) (ps : List Packet) → length (layoutRest rest ++ layoutPackets ps) ≡ 0
         → fill room (record { rest = rest; waiting = ps }) ≡ cutNothing rest ps
     go none [] e = refl
     go none (p ∷ ps) e = absurd (omega arith)
@@ -65,16 +65,16 @@ mark-first false n h = le-ltb (32768 + n) 32768 (omega arith)
 
 -- ---- the front packet of the queue that stands in the bytes from a position on
 module _ (bytes : List ℕ) (start : ℕ) {q : Queue} (here : layout q ≡ drop start bytes) (f : Front q) where
-  stands : drop start bytes ≡ marked (frontMark (f .first) (length (f .bytes))) (f .bytes ++ layoutWaiting (f .packets))
+  stands : drop start bytes ≡ marked (frontMark (f .first) (length (f .bytes))) (f .bytes ++ layoutPackets (f .packets))
   stands = sym here ∙ f .lays
 
   pub inside : start + 2 + length (f .bytes) ≤ length bytes
-  inside = omega (arith, ap length stands, length-drop start bytes, length-append (f .bytes) (layoutWaiting (f .packets)))
+  inside = omega (arith, ap length stands, length-drop start bytes, length-append (f .bytes) (layoutPackets (f .packets)))
 
   mark-is : markFrom bytes start ≡ frontMark (f .first) (length (f .bytes))
   mark-is =
       let at : markAt (drop start bytes) ≡ markFrom bytes start = rw (getD-drop start bytes 0 0, getD-drop start bytes 1 0, add-zero) in
-      sym at ∙ ap markAt stands ∙ mark-back (frontMark (f .first) (length (f .bytes))) (f .bytes ++ layoutWaiting (f .packets))
+      sym at ∙ ap markAt stands ∙ mark-back (frontMark (f .first) (length (f .bytes))) (f .bytes ++ layoutPackets (f .packets))
 
   pub length-is : markFrom bytes start % 32768 ≡ length (f .bytes)
   length-is = ap (λ (m : ℕ). m % 32768) mark-is ∙ mark-length (f .first) (length (f .bytes)) (f .high)
@@ -82,11 +82,11 @@ module _ (bytes : List ℕ) (start : ℕ) {q : Queue} (here : layout q ≡ drop 
   pub first-is : ltb (markFrom bytes start) 32768 ≡ f .first
   first-is = ap (λ (m : ℕ). ltb m 32768) mark-is ∙ mark-first (f .first) (length (f .bytes)) (f .high)
 
-  rest-is : drop (start + 2) bytes ≡ f .bytes ++ layoutWaiting (f .packets)
+  rest-is : drop (start + 2) bytes ≡ f .bytes ++ layoutPackets (f .packets)
   rest-is = sym (drop-drop 2 start bytes) ∙ ap (drop 2) stands
 
   pub part : (k : ℕ) → k ≤ length (f .bytes) → take k (drop (start + 2) bytes) ≡ take k (f .bytes)
-  part k h = ap (take k) rest-is ∙ take-append-le k (f .bytes) (layoutWaiting (f .packets)) h
+  part k h = ap (take k) rest-is ∙ take-append-le k (f .bytes) (layoutPackets (f .packets)) h
 
-  pub behind : (k : ℕ) → k ≤ length (f .bytes) → drop (start + 2 + k) bytes ≡ drop k (f .bytes) ++ layoutWaiting (f .packets)
-  behind k h = sym (drop-drop k (start + 2) bytes) ∙ ap (drop k) rest-is ∙ drop-append-le k (f .bytes) (layoutWaiting (f .packets)) h
+  pub behind : (k : ℕ) → k ≤ length (f .bytes) → drop (start + 2 + k) bytes ≡ drop k (f .bytes) ++ layoutPackets (f .packets)
+  behind k h = sym (drop-drop k (start + 2) bytes) ∙ ap (drop k) rest-is ∙ drop-append-le k (f .bytes) (layoutPackets (f .packets)) h

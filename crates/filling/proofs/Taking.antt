@@ -14,7 +14,7 @@ use Rattle.basics.proofs.Lists.{zeros-length}
 use Rattle.lent.specs.Written.{written}
 use Rattle.lent.proofs.Written.{written-length, take-written, drop-written}
 use Rattle.link.specs.Link.{Piece, Queue, IsQueue, Cut, cutNothing, cutLast, pieceThen}
-use Rattle.link.specs.Store.{marked, layoutWaiting, layout, isWhole}
+use Rattle.link.specs.Store.{marked, layoutPackets, layout, isWhole}
 use Rattle.link.proofs.Store.{markFrom}
 use Rattle.link.proofs.RoundTrip.{parse-queue, layout-back}
 use Rattle.packing.specs.Rules.{recordBytes, recordsBytes}
@@ -174,7 +174,7 @@ module _ {bytes after : List ℕ} {at start : ℕ} (i : Filling bytes after at s
           rw n-is (record {
             queue = next;
             is-queue = (tt, f .others);
-            here = sym (behind bytes start (i .here) f n (omega arith) ∙ ap (λ (l : List ℕ). l ++ layoutWaiting (f .packets)) (drop-length (f .bytes)));
+            here = sym (behind bytes start (i .here) f n (omega arith) ∙ ap (λ (l : List ℕ). l ++ layoutPackets (f .packets)) (drop-length (f .bytes)));
             low = fits;
             within = inside bytes start (i .here) f;
             long = record-long after at all new (i .long) fits;
@@ -209,7 +209,7 @@ module _ {bytes after : List ℕ} {at start : ℕ} (i : Filling bytes after at s
           record {
             filled = laid after′ (recordsBytes (fill 1908 (queueIn bytes) .pieces)) 1908 records (omega arith) long (drop-of-length-le after′ {i = 1908} (omega arith));
             rest = ap layout (i .left ∙ ap (λ (c : Cut). c .left) filled)
-                ∙ ap (λ (m : ℕ). marked (32768 + m) (drop k (f .bytes) ++ layoutWaiting (f .packets))) unsent
+                ∙ ap (λ (m : ℕ). marked (32768 + m) (drop k (f .bytes) ++ layoutPackets (f .packets))) unsent
                 ∙ ap (marked (32768 + (mark % 32768 - k))) (sym (behind bytes start (i .here) f k (omega (arith, n-is))))
                 ∙ sym (remaining-some (mark % 32768 - k) (drop (start + 2 + k) bytes) (λ z. omega arith));
             inside = omega (arith, n-is, inside bytes start (i .here) f);

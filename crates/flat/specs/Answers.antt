@@ -5,8 +5,8 @@ use Rattle.reading.specs.declared.ReadAnswer.{ReadAnswer}
 use Rattle.reading.specs.declared.ReadAnswer.the-variants as read
 use Rattle.list.specs.declared.EntryAnswer.{EntryAnswer}
 use Rattle.list.specs.declared.EntryAnswer.the-variants as entry
-use Rattle.receiver.specs.declared.ReceiveAnswer.{ReceiveAnswer}
-use Rattle.receiver.specs.declared.ReceiveAnswer.the-variants as receive
+use Rattle.receiving.specs.declared.ReceiveAnswer.{ReceiveAnswer}
+use Rattle.receiving.specs.declared.ReceiveAnswer.the-variants as receive
 use Rattle.sender.specs.declared.PutAnswer.{PutAnswer}
 use Rattle.sender.specs.declared.PutAnswer.the-variants as put
 use Rattle.sending.specs.declared.NextAnswer.{NextAnswer}

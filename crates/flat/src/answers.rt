@@ -7,7 +7,7 @@ use crate::states::FlatSender;
 use header::CodeAnswer;
 use list::EntryAnswer;
 use reading::ReadAnswer;
-use receiver::ReceiveAnswer;
+use receiving::ReceiveAnswer;
 use sender::PutAnswer;
 use sending::NextAnswer;
 ghost use mathlib.Core.Path.{_≡_};

@@ -9,12 +9,14 @@ use native.Mathlib.Omega.{arith}
 use lib.Dec.{eqb}
 use lib.ListN.{length, length-append}
 use Rattle.link.specs.Link.{ArePackets, Piece, onPiece, onPieces}
+use Rattle.link.specs.Store.{layoutPackets}
 use Rattle.link.proofs.Hold.{held-bound, out-packets}
 use Rattle.link.proofs.Reassembly.{Filled}
 use Rattle.packing.specs.Rules.{recordsBytes}
 use Rattle.packing.specs.Reading.{readFrom, read}
 use Rattle.packing.proofs.Reading.{lies, read-piece, piece-length, read-shape}
-use Rattle.joining.specs.Joining.{recordsRefusal, joinedStep, listBytes}
+use Rattle.fitting.specs.Fitting.{recordsRefusal}
+use Rattle.joining.specs.Joining.{joinedStep}
 use Rattle.joining.proofs.Pieces.{lists-append, step-size, accepted}
 
 -- ---- pieces that were read
@@ -49,13 +51,13 @@ inside-area (p ∷ ps) area at h e =
 
 -- a packet takes no more bytes in the list than its records in the areas, but for what was held
 out-size : (held : List ℕ) (ps : List Piece)
-    → length (listBytes (onPieces held ps .out)) + length (onPieces held ps .held) ≤ length held + length (recordsBytes ps)
+    → length (layoutPackets (onPieces held ps .out)) + length (onPieces held ps .held) ≤ length held + length (recordsBytes ps)
 out-size held [] = omega arith
 out-size held (p ∷ ps) =
     let step = onPiece held (p .first) (p .last) (p .bytes) in
     let more = onPieces (step .held) ps in
-    let out : length (listBytes (step .out ++ more .out)) ≡ length (listBytes (step .out)) + length (listBytes (more .out)) =
-    ap length (lists-append (step .out) (more .out)) ∙ length-append (listBytes (step .out)) (listBytes (more .out)) in
+    let out : length (layoutPackets (step .out ++ more .out)) ≡ length (layoutPackets (step .out)) + length (layoutPackets (more .out)) =
+    ap length (lists-append (step .out) (more .out)) ∙ length-append (layoutPackets (step .out)) (layoutPackets (more .out)) in
     omega (arith, out, step-size held (p .first) (p .last) (p .bytes), out-size (step .held) ps, length-append (p .bytes) (recordsBytes ps))
 
 -- ---- an area that is not refused
@@ -68,7 +70,7 @@ module _ (held area : List ℕ) (e : recordsRefusal held area ≡ 0) where
       rw (a .whole) (out-packets held (a .pieces) (read-filled area (a .pieces) (a .whole)) (read-shape area (a .pieces) (a .whole)) (a .fitting))
 
   module _ (low : length held ≤ 8999) where
-    pub joined-listed : length (listBytes (joinedStep held area .out)) ≤ 10907
+    pub joined-listed : length (layoutPackets (joinedStep held area .out)) ≤ 10907
     unfolding joinedStep
     joined-listed =
         let a = accepted held area e in

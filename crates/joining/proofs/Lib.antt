@@ -1,5 +1,3 @@
-pub mod Refusals
-pub mod Growing
 pub mod Pieces
 pub mod Reached
 pub mod Laws

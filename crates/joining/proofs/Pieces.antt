@@ -10,21 +10,22 @@ use lib.ListN.{length, length-append}
 use borrow.Author.Tests.{eqb-true}
 use Rattle.lent.proofs.Outcome.{gate}
 use Rattle.link.specs.Link.{Packet, Piece, onPiece, fits}
+use Rattle.link.specs.Store.{layoutPackets}
 use Rattle.link.proofs.Hold.{AllFirst, Shape, held-bound}
 use Rattle.packing.specs.Reading.{readFrom, read}
-use Rattle.joining.specs.Joining.{piecesRefusal, recordsRefusal, listBytes}
-use Rattle.joining.proofs.Refusals.{fits-first}
+use Rattle.fitting.specs.Fitting.{piecesRefusal, recordsRefusal}
+use Rattle.fitting.proofs.Refusals.{fits-first}
 
 -- ---- what a piece does
 
-pub lists-append : (ps qs : List Packet) → listBytes (ps ++ qs) ≡ listBytes ps ++ listBytes qs
+pub lists-append : (ps qs : List Packet) → layoutPackets (ps ++ qs) ≡ layoutPackets ps ++ layoutPackets qs
 lists-append [] qs = refl
 lists-append (p ∷ ps) qs =
-    ap (λ l. length p / 256 ∷ length p % 256 ∷ l) (ap (λ l. p ++ l) (lists-append ps qs) ∙ sym (append-assoc p (listBytes ps) (listBytes qs)))
+    ap (λ l. length p / 256 ∷ length p % 256 ∷ l) (ap (λ l. p ++ l) (lists-append ps qs) ∙ sym (append-assoc p (layoutPackets ps) (layoutPackets qs)))
 
 -- a packet takes two bytes more in the list than its pieces
 pub step-size : (held : List ℕ) (first last : Bool) (bytes : List ℕ)
-    → length (listBytes (onPiece held first last bytes .out)) + length (onPiece held first last bytes .held) ≤ 2 + length held + length bytes
+    → length (layoutPackets (onPiece held first last bytes .out)) + length (onPiece held first last bytes .held) ≤ 2 + length held + length bytes
 step-size held true true bytes = simp length-append (omega arith)
 step-size held true false bytes = omega arith
 step-size [] false last bytes = omega arith

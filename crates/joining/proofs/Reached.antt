@@ -11,15 +11,17 @@ use lib.Seq.{length-take-le}
 use Rattle.lent.specs.Written.{written}
 use Rattle.lent.proofs.Written.{take-written, written-append, written-length, written-nothing, written-own}
 use Rattle.link.specs.Link.{Packet, Piece, Step, onPiece, stepThen, onPieces, fits, fitsPiece}
+use Rattle.link.specs.Store.{layoutPackets}
 use Rattle.link.proofs.Hold.{AllFirst, Shape}
 use Rattle.packing.specs.declared.Record.{Record}
 use Rattle.packing.specs.declared.Found.the-variants.{At, End, Against}
 use Rattle.packing.specs.Reading.{recordAt, pieceOf, withPiece, readFrom}
 use Rattle.packing.proofs.Reading.{Lies, lies, piece-length, read-record, read-end, read-against, read-shape}
-use Rattle.joining.specs.declared.Joined.{Joined}
-use Rattle.joining.specs.Joining.{recordsRefusal, joinedStep, listBytes, JoinOutcome}
-use Rattle.joining.specs.Step.{Ready, StepOutcome}
-use Rattle.joining.proofs.Refusals.{part-is}
+use Rattle.fitting.specs.Fitting.{recordsRefusal}
+use Rattle.fitting.proofs.Refusals.{part-is}
+use Rattle.growing.specs.declared.Joined.{Joined}
+use Rattle.growing.specs.Growing.{Ready, StepOutcome}
+use Rattle.joining.specs.Joining.{joinedStep, JoinOutcome}
 use Rattle.joining.proofs.Pieces.{lists-append, step-size, step-few, step-last, step-held, first-fits-any, first-shape, accepted}
 
 -- ---- the invariant
@@ -38,9 +40,9 @@ pub record Reached (area : List ℕ) (before : ℕ) (hold₀ list₀ hold list :
   pub hold-is : hold ≡ written hold₀ 0 (take (joined .held) hold)
   -- only the final record may lack "last", so no record reads what another wrote into the hold
   pub hold-kept : at < 1908 → hold ≡ hold₀
-  pub list-is : list ≡ written list₀ 0 (listBytes done)
+  pub list-is : list ≡ written list₀ 0 (layoutPackets done)
   pub packets : joined .packets ≡ length done
-  pub listed : joined .listed ≡ length (listBytes done)
+  pub listed : joined .listed ≡ length (layoutPackets done)
   pub room : joined .listed + joined .held ≤ before + at
   pub few : joined .packets ≤ at
 
@@ -78,7 +80,7 @@ module _ {area : List ℕ} {before : ℕ} {hold₀ list₀ hold list : List ℕ}
   held-length = length-take-le (joined .held) hold (omega (arith, r .held-low, r .hold-long))
 
   pub list-length : before ≤ 8999 → 10907 ≤ length list₀ → length list ≡ length list₀
-  list-length low long = ap length (r .list-is) ∙ written-length list₀ 0 (listBytes (r .done)) (omega (arith, r .room, r .listed, r .low))
+  list-length low long = ap length (r .list-is) ∙ written-length list₀ 0 (layoutPackets (r .done)) (omega (arith, r .room, r .listed, r .low))
 
   -- at the end of the records nothing is left to read
   pub ends : recordAt area at ≡ End → JoinOutcome area before hold₀ list₀ joined hold list
@@ -91,9 +93,9 @@ module _ {area : List ℕ} {before : ℕ} {hold₀ list₀ hold list : List ℕ}
       record {
         held = sym (ap (λ (s : Step). length (s .held)) step ∙ held-length);
         packets = r .packets ∙ sym (ap (λ (s : Step). length (s .out)) step);
-        listed = r .listed ∙ sym (ap (λ (s : Step). length (listBytes (s .out))) step);
+        listed = r .listed ∙ sym (ap (λ (s : Step). length (layoutPackets (s .out))) step);
         hold-bytes = r .hold-is ∙ sym (ap (λ (s : Step). written hold₀ 0 (s .held)) step);
-        list-bytes = r .list-is ∙ sym (ap (λ (s : Step). written list₀ 0 (listBytes (s .out))) step);
+        list-bytes = r .list-is ∙ sym (ap (λ (s : Step). written list₀ 0 (layoutPackets (s .out))) step);
       }
 
   pub not-against : recordAt area at ≡ Against → ⊥
@@ -178,10 +180,10 @@ module _ {area : List ℕ} {before : ℕ} {hold₀ list₀ hold list : List ℕ}
           go true f = refl
           go false f = absurd (omega (arith, f refl, r .area-long))
 
-      list-next : list′ ≡ written list₀ 0 (listBytes (r .done ++ step′ .out))
+      list-next : list′ ≡ written list₀ 0 (layoutPackets (r .done ++ step′ .out))
       list-next =
-          let d = listBytes (r .done) in
-          let o = listBytes (step′ .out) in
+          let d = layoutPackets (r .done) in
+          let o = layoutPackets (step′ .out) in
           out .list-bytes
           ∙ ap (λ (l : List ℕ). written l (joined .listed) o) (r .list-is)
           ∙ ap (λ (n : ℕ). written (written list₀ 0 d) n o) (r .listed ∙ sym (zero-add (length d)))
@@ -214,7 +216,7 @@ module _ {area : List ℕ} {before : ℕ} {hold₀ list₀ hold list : List ℕ}
             hold-kept = λ h. hold-next ∙ ap (written hold₀ 0) (step-last (take (joined .held) hold) (found .first) (found .last) bytes (last-set h)) ∙ written-nothing hold₀ 0;
             list-is = list-next;
             packets = omega (arith, out .packets, r .packets, length-append (r .done) (step′ .out));
-            listed = omega (arith, out .listed, r .listed, ap length (lists-append (r .done) (step′ .out)), length-append (listBytes (r .done)) (listBytes (step′ .out)));
+            listed = omega (arith, out .listed, r .listed, ap length (lists-append (r .done) (step′ .out)), length-append (layoutPackets (r .done)) (layoutPackets (step′ .out)));
             room = size;
             few = omega (arith, out .packets, step-few (take (joined .held) hold) (found .first) (found .last) bytes, r .few, lie .start);
           }

@@ -5,9 +5,10 @@ use mathlib.Core.Bool.{Bool, true, false}
 use mathlib.Core.List.{List, [], _∷_, _++_}
 use Prim.Native.Nat.{ℕ, zero, suc, _+_, _≤_, _<_}
 use native.Mathlib.Omega.{arith}
+use lib.Dec.{leb}
 use lib.ListN.{length, length-append}
 use borrow.Author.Tests.{leb-true}
-use Rattle.link.specs.Link.{Packet, ArePackets, Piece, onPiece, onPieces, mostJoined, fits, Receiver, missed, heldAfter, receiveWith, receive}
+use Rattle.link.specs.Link.{Packet, ArePackets, Piece, onPiece, onPieces, mostJoined, fitsPiece, fits, Receiver, missed, heldAfter, receiveWith, receive}
 use Rattle.link.proofs.Reassembly.{Filled}
 
 -- Pieces as any accepted area has them: only the first may go on with a packet, and none is longer than 8,999 bytes.
@@ -18,6 +19,12 @@ AllFirst (p ∷ ps) = (p .first ≡ true) × (length (p .bytes) ≤ 8999) × All
 abbrev pub Shape : List Piece → Type 0
 Shape [] = Unit {0}
 Shape (p ∷ ps) = (length (p .bytes) ≤ 8999) × AllFirst ps
+
+-- a piece that goes on with what is held fits by the sum
+pub fits-by-sum : (held : List ℕ) (first last : Bool) (bytes : List ℕ) → first ≡ false → (length held ≡ 0 → ⊥)
+    → fitsPiece held first last bytes ≡ leb (length held + length bytes) (mostJoined last)
+fits-by-sum [] first last bytes e n = absurd (n refl)
+fits-by-sum (x ∷ held) first last bytes e n = rw e
 
 first-bound : (h : List ℕ) (last : Bool) (b : List ℕ) → length b ≤ 8999 → length (onPiece h true last b .held) ≤ 8999
 first-bound h true b k = omega arith

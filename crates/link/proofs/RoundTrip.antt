@@ -14,7 +14,7 @@ use Rattle.basics.specs.Lists.{Bytes}
 use Rattle.basics.proofs.Lists.{bytes-drop}
 use Rattle.basics.proofs.Tests.{left-true, right-true}
 use Rattle.link.specs.Link.{Packet, IsPacket, ArePackets, Queue, IsRest, IsQueue, withPacket}
-use Rattle.link.specs.Store.{marked, layoutWaiting, layoutRest, layout, markAt, isLength, withFront, packetsIn, withRest, parseBegun, parse}
+use Rattle.link.specs.Store.{marked, layoutPackets, layoutRest, layout, markAt, isLength, withFront, packetsIn, withRest, parseBegun, parse}
 use Rattle.link.proofs.Sender.{put-queue}
 use Rattle.link.proofs.Store.{put-lays, mark-back, packets-step, packets-end}
 
@@ -31,15 +31,15 @@ is-length : (most n : ℕ) (x y : ℕ) (p l : List ℕ) → length p ≡ n → 1
 is-length most n x y p l e low high =
     rw (le-leb 1 n low, le-leb n most high) (le-leb (2 + n) (length (x ∷ y ∷ (p ++ l))) (omega (arith, length-append p l)))
 
-packets-back : (ps : List Packet) → ArePackets ps → packetsIn (layoutWaiting ps) ≡ some ps
+packets-back : (ps : List Packet) → ArePackets ps → packetsIn (layoutPackets ps) ≡ some ps
 packets-back [] h = packets-end [] 0 (omega arith)
 packets-back (p ∷ ps) h =
-    packets-step (layoutWaiting (p ∷ ps)) (omega arith)
+    packets-step (layoutPackets (p ∷ ps)) (omega arith)
     ∙ rw (
-      mark-back (length p) (p ++ layoutWaiting ps),
-      is-length 9000 (length p) (length p / 256) (length p % 256) p (layoutWaiting ps) refl (h .0 .0) (h .0 .1),
-      front (length p / 256) (length p % 256) p (layoutWaiting ps),
-      behind (length p / 256) (length p % 256) p (layoutWaiting ps),
+      mark-back (length p) (p ++ layoutPackets ps),
+      is-length 9000 (length p) (length p / 256) (length p % 256) p (layoutPackets ps) refl (h .0 .0) (h .0 .1),
+      front (length p / 256) (length p % 256) p (layoutPackets ps),
+      behind (length p / 256) (length p % 256) p (layoutPackets ps),
       packets-back ps (h .1),
     )
 
@@ -48,20 +48,20 @@ unfolding layout parse
 parse-back q h = go (q .rest) (q .waiting) (h .0) (h .1)
   where
     go : (rest : Option (List ℕ)) (ps : List Packet) → IsRest rest → ArePackets ps
-        → parse (layoutRest rest ++ layoutWaiting ps) ≡ some (record { rest = rest; waiting = ps })
+        → parse (layoutRest rest ++ layoutPackets ps) ≡ some (record { rest = rest; waiting = ps })
     go none [] k a = ap (withRest none) (packets-back [] tt)
     go none (p ∷ ps) k a =
-        rw (packets-back (p ∷ ps) a, mark-back (length p) (p ++ layoutWaiting ps), lt-leb 32768 (length p) (omega (arith, a .0 .1)))
+        rw (packets-back (p ∷ ps) a, mark-back (length p) (p ++ layoutPackets ps), lt-leb 32768 (length p) (omega (arith, a .0 .1)))
     go (some r) ps k a =
         let m = 32768 + length r in
         let e : m - 32768 ≡ length r = omega arith in
         rw (
-          mark-back m (r ++ layoutWaiting ps),
+          mark-back m (r ++ layoutPackets ps),
           le-leb 32768 m (omega arith),
           e,
-          is-length 8999 (length r) (m / 256) (m % 256) r (layoutWaiting ps) refl (k .0) (k .1),
-          front (m / 256) (m % 256) r (layoutWaiting ps),
-          behind (m / 256) (m % 256) r (layoutWaiting ps),
+          is-length 8999 (length r) (m / 256) (m % 256) r (layoutPackets ps) refl (k .0) (k .1),
+          front (m / 256) (m % 256) r (layoutPackets ps),
+          behind (m / 256) (m % 256) r (layoutPackets ps),
           packets-back ps a,
         )
 
@@ -176,7 +176,7 @@ lays-back : (a later : List ℕ) (n : ℕ) → Bytes a → 2 + n ≤ length a �
 lays-back a later n b h e =
     rw (e, ← drop-drop n 2 a, take-append-drop n (drop 2 a)) (marked-back a b (omega arith))
 
-packets-lay : (ps : List Packet) (a : List ℕ) → Bytes a → packetsIn a ≡ some ps → layoutWaiting ps ≡ a
+packets-lay : (ps : List Packet) (a : List ℕ) → Bytes a → packetsIn a ≡ some ps → layoutPackets ps ≡ a
 packets-lay [] [] b e = refl
 packets-lay [] (x ∷ l) b e =
     let a = x ∷ l in
@@ -185,7 +185,7 @@ packets-lay (p ∷ ps) a b e =
     let f = packets-front a p ps e in
     let n : length p ≡ markAt a = ap length (f .is) ∙ length-front 9000 (markAt a) a (f .says) in
     let later = packets-lay ps (drop (2 + markAt a) a) (bytes-drop (2 + markAt a) a b) (f .goes-on) in
-    rw (n, f .is) (lays-back a (layoutWaiting ps) (markAt a) b (f .says .room) later)
+    rw (n, f .is) (lays-back a (layoutPackets ps) (markAt a) b (f .says .room) later)
 
 -- What is read from bytes is laid out as those bytes.
 pub layout-back : (a : List ℕ) (q : Queue) → Bytes a → parse a ≡ some q → layout q ≡ a
@@ -197,7 +197,7 @@ layout-back a q b e = go (parsed a q e)
         let n = markAt a - 32768 in
         let m : 32768 + length (take n (drop 2 a)) ≡ markAt a = rw (length-front 8999 n a s) (omega arith) in
         let later = packets-lay (q .waiting) (drop (2 + n) a) (bytes-drop (2 + n) a b) w in
-        rw (r, m) (lays-back a (layoutWaiting (q .waiting)) n b (s .room) later)
+        rw (r, m) (lays-back a (layoutPackets (q .waiting)) n b (s .room) later)
     go (plainFront r w) = rw r (packets-lay (q .waiting) a b w)
 
 -- So bytes are whole exactly where they are the layout of a queue.

@@ -12,7 +12,7 @@ use lib.Seq.{drop-drop, getD-drop}
 use lib.Dec.{leb}
 use borrow.Author.Tests.{le-leb, lt-leb}
 use Rattle.link.specs.Link.{Packet, Queue, withPacket}
-use Rattle.link.specs.Store.{marked, layoutWaiting, layoutRest, layout, markAt, isLength, withFront, parseWaiting, packetsIn, withRest, parse, isSome, isWhole}
+use Rattle.link.specs.Store.{marked, layoutPackets, layoutRest, layout, markAt, isLength, withFront, parseWaiting, packetsIn, withRest, parse, isSome, isWhole}
 
 -- a mark that is written is read back
 pub mark-back : (mark : ℕ) (bytes : List ℕ) → markAt (marked mark bytes) ≡ mark
@@ -28,7 +28,7 @@ abbrev pub usedRest : Option (List ℕ) → ℕ
 usedRest none = 0
 usedRest (some r) = 2 + length r
 
-length-waiting : (ps : List Packet) → length (layoutWaiting ps) ≡ usedWaiting ps
+length-waiting : (ps : List Packet) → length (layoutPackets ps) ≡ usedWaiting ps
 length-waiting [] = refl
 length-waiting (p ∷ ps) = rw (length-append, length-waiting ps) (omega arith)
 
@@ -36,13 +36,13 @@ pub length-layout : (q : Queue) → length (layout q) ≡ usedRest (q .rest) + u
 unfolding layout
 length-layout q = go (q .rest)
   where
-    go : (rest : Option (List ℕ)) → length (layoutRest rest ++ layoutWaiting (q .waiting)) ≡ usedRest rest + usedWaiting (q .waiting)
+    go : (rest : Option (List ℕ)) → length (layoutRest rest ++ layoutPackets (q .waiting)) ≡ usedRest rest + usedWaiting (q .waiting)
     go none = rw length-waiting (omega arith)
     go (some r) = rw (length-append, length-waiting) (omega arith)
 
 -- ---- putting: the mark and the packet stand behind all others
 
-waiting-lays : (ps : List Packet) (p : Packet) → layoutWaiting (ps ++ (p ∷ [])) ≡ layoutWaiting ps ++ marked (length p) p
+waiting-lays : (ps : List Packet) (p : Packet) → layoutPackets (ps ++ (p ∷ [])) ≡ layoutPackets ps ++ marked (length p) p
 waiting-lays [] p = rw append-nil
 waiting-lays (q ∷ ps) p = rw (waiting-lays ps p, append-assoc)
 

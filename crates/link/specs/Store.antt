@@ -13,16 +13,17 @@ use Rattle.link.specs.Link.{Packet, Queue}
 abbrev pub marked : ℕ → List ℕ → List ℕ
 marked mark bytes = mark / 256 ∷ mark % 256 ∷ bytes
 
-abbrev pub layoutWaiting : List Packet → List ℕ
-layoutWaiting [] = []
-layoutWaiting (packet ∷ packets) = marked (length packet) packet ++ layoutWaiting packets
+-- Packets one behind the other, each behind its length: those that wait in a queue, and the list of packets received (01, "Receiving").
+abbrev pub layoutPackets : List Packet → List ℕ
+layoutPackets [] = []
+layoutPackets (packet ∷ packets) = marked (length packet) packet ++ layoutPackets packets
 
 abbrev pub layoutRest : Option (List ℕ) → List ℕ
 layoutRest none = []
 layoutRest (some rest) = marked (32768 + length rest) rest
 
 unfoldable pub layout : Queue → List ℕ
-layout queue = layoutRest (queue .rest) ++ layoutWaiting (queue .waiting)
+layout queue = layoutRest (queue .rest) ++ layoutPackets (queue .waiting)
 
 -- ---------------------------------------------------------------- the queue that bytes stand for; none: they are not whole (refusal 3)
 

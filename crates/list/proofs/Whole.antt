@@ -9,7 +9,7 @@ use native.Mathlib.Omega.{arith}
 use lib.ListN.{length, take, drop}
 use Rattle.basics.proofs.Tests.{lt-or-ge}
 use Rattle.link.specs.Link.{Packet, ArePackets, Queue}
-use Rattle.link.specs.Store.{layoutWaiting, layout, withFront, packetsIn}
+use Rattle.link.specs.Store.{layoutPackets, layout, withFront, packetsIn}
 use Rattle.link.proofs.Store.{markFrom, isLengthFrom, packets-at, packets-end}
 use Rattle.link.proofs.RoundTrip.{Parsed, begunFront, plainFront, parsed, parse-back}
 use Rattle.marks.proofs.Walk.{sized}
@@ -18,14 +18,14 @@ use Rattle.list.proofs.Lengths.{no-mark, no-length, is-length}
 use Rattle.list.proofs.Calls.{at-end, at-refusal, at-packet}
 
 -- what stands in the list that receive wrote
-packets-back : (packets : List Packet) → ArePackets packets → packetsIn (layoutWaiting packets) ≡ some packets
+packets-back : (packets : List Packet) → ArePackets packets → packetsIn (layoutPackets packets) ≡ some packets
 unfolding layout
 packets-back packets h = go (parsed (layout queue) queue (parse-back queue (tt, h)))
   where
     queue : Queue
     queue = record { rest = none; waiting = packets }
 
-    go : Parsed (layout queue) queue → packetsIn (layoutWaiting packets) ≡ some packets
+    go : Parsed (layout queue) queue → packetsIn (layoutPackets packets) ≡ some packets
     go (begunFront t s r w) = let z : _≡_ {A = ℕ} 0 1 = cc in absurd (omega arith)
     go (plainFront r w) = w
 
@@ -75,5 +75,5 @@ unfolding packetsRead
 packets-read list = from-position list (suc (length list)) 0 (omega arith) (omega arith)
 
 -- The list that receive wrote is read as exactly its packets, and then the end.
-pub list-read : (packets : List Packet) → ArePackets packets → packetsRead (layoutWaiting packets) ≡ some packets
-list-read packets h = packets-read (layoutWaiting packets) ∙ packets-back packets h
+pub list-read : (packets : List Packet) → ArePackets packets → packetsRead (layoutPackets packets) ≡ some packets
+list-read packets h = packets-read (layoutPackets packets) ∙ packets-back packets h

@@ -28,7 +28,7 @@ fn next_listed(
             goes_on: false,
         };
     }
-    let answer = receiver::receive(TAPS, &frame[..length], receiver, hold, list);
+    let answer = receiving::receive(TAPS, &frame[..length], receiver, hold, list);
     let mut line = [0u8; 96];
     let end = listing_lines::write_line(&mut line, place, answer);
     let is_printed = io::write_all(STDOUT_FILENO, &line[..end]);

@@ -8,9 +8,8 @@ use Prim.Native.String.{String, [] as empty, _∷_ as _then_}
 use lib.Dec.{ltb}
 use Rattle.header.specs.declared.FrameKind.{FrameKind}
 use Rattle.header.specs.declared.FrameKind.the-variants.{Idle, Data, Type2, Type3}
-use Rattle.receiver.specs.declared.Receiver.{Receiver}
-use Rattle.receiver.specs.declared.ReceiveAnswer.{ReceiveAnswer}
-use Rattle.receiver.specs.declared.ReceiveAnswer.the-variants.{Received, Refused}
+use Rattle.receiving.specs.declared.ReceiveAnswer.{ReceiveAnswer}
+use Rattle.receiving.specs.declared.ReceiveAnswer.the-variants.{Received, Refused}
 
 -- ---------------------------------------------------------------- words
 
@@ -56,8 +55,3 @@ refusedLine place number = line (decimal place) (ascii "refused" ∷ decimal num
 abbrev pub answerLine : ℕ → ReceiveAnswer → List ℕ
 answerLine place (Received header missed packets listed receiver) = acceptedLine place (header .txfn .0) (header .kind) missed packets
 answerLine place (Refused number) = refusedLine place number
-
--- the receiver for the next frame: a refusal leaves it as it was
-abbrev pub receiverAfter : Receiver → ReceiveAnswer → Receiver
-receiverAfter before (Received header missed packets listed receiver) = receiver
-receiverAfter before (Refused number) = before

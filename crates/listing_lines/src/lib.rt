@@ -1,13 +1,14 @@
 // The lines of a listing, as text (01, the listing program): written into lent bytes, which a program then prints.
 use header::FrameKind;
-use receiver::ReceiveAnswer;
 use receiver::Receiver;
+use receiving::ReceiveAnswer;
 ghost use mathlib.Core.Path.{_≡_};
 ghost use mathlib.Core.List.{[], _∷_, _++_};
 ghost use Prim.Native.Nat.{_+_, _≤_};
 ghost use lib.ListN.{length};
 ghost use Rattle.lent.specs.Written.{written};
-ghost use Rattle.listing_lines.specs.Lines.{decimal, kindWord, headLine, acceptedLine, refusedLine, answerLine, receiverAfter};
+ghost use Rattle.receiving.specs.Receiving.{receiverAfter};
+ghost use Rattle.listing_lines.specs.Lines.{decimal, kindWord, headLine, acceptedLine, refusedLine, answerLine};
 
 // What stands behind a word.
 const SPACE: u8 = 32;

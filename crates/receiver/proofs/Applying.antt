@@ -16,10 +16,12 @@ use Rattle.lent.proofs.Outcome.{accepted, numbered, gate, refused-by, both-zero
 use Rattle.lent.proofs.Written.{written-length, written-own, written-nothing}
 use Rattle.link.specs.Link as link
 use Rattle.link.specs.Packing.{receiveRead}
+use Rattle.link.specs.Store.{layoutPackets}
 use Rattle.link.proofs.Hold.{Shape, receive-bound, out-packets}
 use Rattle.link.proofs.Reassembly.{Filled}
-use Rattle.joining.specs.Joining.{piecesRefusal, recordsRefusal, orNone, joinedStep, listBytes, JoinOutcome}
-use Rattle.joining.specs.declared.Joined.{Joined}
+use Rattle.fitting.specs.Fitting.{piecesRefusal, recordsRefusal}
+use Rattle.growing.specs.declared.Joined.{Joined}
+use Rattle.joining.specs.Joining.{orNone, joinedStep, JoinOutcome}
 use Rattle.joining.proofs.Laws.{read-filled}
 use Rattle.packing.specs.Reading.{read}
 use Rattle.packing.proofs.Reading.{read-shape}
@@ -29,7 +31,7 @@ use Rattle.receiver.specs.declared.Expected.the-variants.{Frame}
 use Rattle.receiver.specs.declared.Receiver.{Receiver}
 use Rattle.receiver.specs.declared.ApplyAnswer.{ApplyAnswer}
 use Rattle.receiver.specs.declared.ApplyAnswer.the-variants.{Applied, Refused}
-use Rattle.receiver.specs.Applying.{standing, isData, piecesOf, received, numberOf, packetsOf, receiverAfter, buffersRefusal, applyRefusal, ApplyOutcome, applyNumber, areaRefusal, appliedAnswer}
+use Rattle.receiver.specs.Applying.{standing, isData, piecesOf, received, numberOf, packetsOf, steppedReceiver, buffersRefusal, applyRefusal, ApplyOutcome, applyNumber, areaRefusal, joinedAnswer}
 
 -- ---- 2 and 3
 
@@ -182,9 +184,9 @@ module _ {header : Header} {area : List ℕ} {receiver : Receiver} {hold list : 
   -- the pieces did this, and so much was written
   as-joined : {joined : Joined} {hold′ list′ : List ℕ} (step : link.Step)
       → received header area receiver hold ≡ takenAs (header .txfn .0) (count (standing receiver hold) (header .txfn .0)) step
-      → joined .held ≡ length (step .held) → joined .packets ≡ length (step .out) → joined .listed ≡ length (listBytes (step .out))
-      → hold′ ≡ written hold 0 (step .held) → list′ ≡ written list 0 (listBytes (step .out))
-      → ApplyOutcome header area receiver hold list (appliedAnswer missed (header .txfn) joined) hold′ list′
+      → joined .held ≡ length (step .held) → joined .packets ≡ length (step .out) → joined .listed ≡ length (layoutPackets (step .out))
+      → hold′ ≡ written hold 0 (step .held) → list′ ≡ written list 0 (layoutPackets (step .out))
+      → ApplyOutcome header area receiver hold list (joinedAnswer missed (header .txfn) joined) hold′ list′
   as-joined step o h p l hold-is list-is = record {
     answer = accepted number _ _ _ _ (k .refusal) z (rw o (applied-path (nextTxfn (header .txfn .0)) (k .counted) p l h));
     held = accepted number _ _ _ _ (k .refusal) z (rw o hold-is);
@@ -197,13 +199,13 @@ module _ {header : Header} {area : List ℕ} {receiver : Receiver} {hold list : 
       (sym (data-refusal (header .kind) area (take held hold) d) ∙ sym (k .found) ∙ z, omega (arith, k .few, k .passed .most), k .passed .long, k .passed .room)
 
   pub data-done : {joined : Joined} {hold′ list′ : List ℕ} → isData (header .kind) ≡ true → JoinOutcome area held hold list joined hold′ list′
-      → ApplyOutcome header area receiver hold list (appliedAnswer missed (header .txfn) joined) hold′ list′
+      → ApplyOutcome header area receiver hold list (joinedAnswer missed (header .txfn) joined) hold′ list′
   unfolding joinedStep
   data-done d j =
       as-joined (joinedStep (take held hold) area) (taken-is true d) (j .held) (j .packets) (j .listed) (j .hold-bytes) (j .list-bytes)
 
   pub other-done : isData (header .kind) ≡ false
-      → ApplyOutcome header area receiver hold list (appliedAnswer missed (header .txfn) (record { held = held; packets = 0; listed = 0 })) hold list
+      → ApplyOutcome header area receiver hold list (joinedAnswer missed (header .txfn) (record { held = held; packets = 0; listed = 0 })) hold list
   other-done d =
       let inside : held ≤ length hold = omega (arith, k .few, k .passed .most, k .passed .long) in
       as-joined (record { held = take held hold; out = [] }) (taken-is false d)
@@ -289,5 +291,5 @@ apply-own header area receiver hold list missed packets listed after hold′ lis
     let o = received header area receiver hold in
     let most = received-most header area receiver hold (p .most) in
     let answered = x .answer ∙ sym (accepted n n _ _ _ refl z refl) in
-    let same : after ≡ receiverAfter header o = cc in
+    let same : after ≡ steppedReceiver header o = cc in
     (rw same most, ap length (x .held ∙ sym (accepted n n _ _ _ refl z refl)) ∙ written-length hold 0 (o .state .held) (omega (arith, most, p .long)) ∙ p .long)

@@ -1,3 +1,1 @@
 pub mod Applying
-pub mod Opened
-pub mod Receiving

@@ -16,8 +16,9 @@ use Rattle.header.specs.declared.Header.{Header}
 use Rattle.counts.specs.declared.Txfn.{Txfn}
 use Rattle.link.specs.Link as link
 use Rattle.link.specs.Packing.{receiveRead}
-use Rattle.joining.specs.Joining.{piecesRefusal, listBytes}
-use Rattle.joining.specs.declared.Joined.{Joined}
+use Rattle.link.specs.Store.{layoutPackets}
+use Rattle.fitting.specs.Fitting.{piecesRefusal}
+use Rattle.growing.specs.declared.Joined.{Joined}
 use Rattle.packing.specs.Reading.{read}
 use Rattle.receiver.specs.declared.Expected.{Expected}
 use Rattle.receiver.specs.declared.Expected.the-variants.{None, Frame}
@@ -68,12 +69,12 @@ packetsOf (link.taken missed packets) = packets
 packetsOf (link.refused number) = []
 
 -- the state after an accepted frame: the number after its own is expected
-abbrev pub receiverAfter : Header → link.Received → Receiver
-receiverAfter header outcome = record { expected = Frame (record { 0 = nextTxfn (header .txfn .0) }); held = length (outcome .state .held) }
+abbrev pub steppedReceiver : Header → link.Received → Receiver
+steppedReceiver header outcome = record { expected = Frame (record { 0 = nextTxfn (header .txfn .0) }); held = length (outcome .state .held) }
 
 -- the list that it leaves
 abbrev pub listOf : link.Received → List ℕ
-listOf outcome = listBytes (packetsOf (outcome .answer))
+listOf outcome = layoutPackets (packetsOf (outcome .answer))
 
 -- ---------------------------------------------------------------- the call
 
@@ -81,6 +82,17 @@ listOf outcome = listBytes (packetsOf (outcome .answer))
 unfoldable pub buffersRefusal : ℕ → List ℕ → ℕ → List ℕ → List ℕ → ℕ
 buffersRefusal size bytes held hold list =
     cond (eqb (length bytes) size && eqb (length hold) 9000 && leb 10907 (length list)) (cond (leb held 8999) 0 3) 2
+
+-- The paper's number for each case of the answer, and the case for a number: `apply-numbers` in proofs/Applying.antt ties the two.
+abbrev pub applyNumber : ApplyAnswer → ℕ
+applyNumber (Applied missed packets listed receiver) = 0
+applyNumber (Refused number) = number
+
+abbrev pub applyAnswer : ℕ → Header → link.Received → ApplyAnswer
+applyAnswer number header outcome =
+    by number
+    (Applied (missedOf (outcome .answer)) (length (packetsOf (outcome .answer))) (length (listOf outcome)) (steppedReceiver header outcome))
+    (Refused number)
 
 module _ (header : Header) (area : List ℕ) (receiver : Receiver) (hold list : List ℕ) where
   abbrev outcome : link.Received
@@ -94,16 +106,9 @@ module _ (header : Header) (area : List ℕ) (receiver : Receiver) (hold list : 
   -- The whole outcome of `apply`: the answer, and the bytes of the hold and of the list. The part now held is the front of the hold; completing a packet, dropping, skipping
   -- and other types so leave the hold's bytes. The list is written from byte 0 on. All other bytes keep their values.
   pub record ApplyOutcome (r : ApplyAnswer) (hold′ list′ : List ℕ) : Type 0 where
-    pub answer : r ≡ by applyRefusal
-        (Applied (missedOf (outcome .answer)) (length (packetsOf (outcome .answer))) (length (listOf outcome)) (receiverAfter header outcome))
-        (Refused applyRefusal)
+    pub answer : r ≡ applyAnswer applyRefusal header outcome
     pub held : hold′ ≡ by applyRefusal (written hold 0 (outcome .state .held)) hold
     pub listed : list′ ≡ by applyRefusal (written list 0 (listOf outcome)) list
-
--- the paper's number for each case of the answer (01, last section): `apply-numbers` in proofs/Applying.antt
-abbrev pub applyNumber : ApplyAnswer → ℕ
-applyNumber (Applied missed packets listed receiver) = 0
-applyNumber (Refused number) = number
 
 -- ---------------------------------------------------------------- private calls
 
@@ -111,7 +116,7 @@ applyNumber (Refused number) = number
 abbrev pub areaRefusal : FrameKind → List ℕ → List ℕ → ℕ
 areaRefusal kind area held = piecesRefusal held (piecesOf kind area)
 
--- what is answered where nothing is refused
-abbrev pub appliedAnswer : ℕ → Txfn → Joined → ApplyAnswer
-appliedAnswer missed txfn joined =
+-- what is answered where nothing is refused, by what was joined
+abbrev pub joinedAnswer : ℕ → Txfn → Joined → ApplyAnswer
+joinedAnswer missed txfn joined =
     Applied missed (joined .packets) (joined .listed) (record { expected = Frame (record { 0 = nextTxfn (txfn .0) }); held = joined .held })

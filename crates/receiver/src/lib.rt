@@ -1,15 +1,13 @@
-// The receiver: packets come out of arriving frames whole and in their turn, or not at all, and the frames missed are counted (01, "Receiving").
+// The receiver: packets come out of opened frames whole and in their turn, or not at all, and the frames missed are counted (01, "Receiving").
 use counts::Txfn;
-use frame::OpenAnswer;
+use growing::Joined;
 use header::FrameKind;
 use header::Header;
-use joining::Joined;
 ghost use mathlib.Core.Path.{_≡_};
 ghost use mathlib.Core.Bool.{cond};
 ghost use lib.Dec.{eqb};
 ghost use Rattle.link.specs.Link.{missed};
-ghost use Rattle.receiver.specs.Applying.{freshReceiver, expectedNumber, isData, areaRefusal, buffersRefusal, appliedAnswer, ApplyOutcome};
-ghost use Rattle.receiver.specs.Receiving.{argumentRefusal, withHeader, ReceiveOutcome};
+ghost use Rattle.receiver.specs.Applying.{freshReceiver, expectedNumber, isData, areaRefusal, buffersRefusal, joinedAnswer, ApplyOutcome};
 
 // The number that the next frame should have; none before the first frame.
 pub enum Expected {
@@ -74,7 +72,7 @@ fn is_data(kind: FrameKind) -> bool
 }
 
 // 2 and 3, for bytes that are to be of this size; 0 for neither.
-fn buffers_refusal(size: usize, bytes: &[u8], held: usize, hold: &[u8], list: &[u8]) -> u8
+pub fn buffers_refusal(size: usize, bytes: &[u8], held: usize, hold: &[u8], list: &[u8]) -> u8
     ensures { λ r. ⌜ r ≡ buffersRefusal size (now (bytes .entry)) held (now (hold .entry)) (now (list .entry)) ⌝ }
 {
     if bytes.len() != size {
@@ -94,14 +92,14 @@ fn area_refusal(kind: FrameKind, area: &[u8], held: &[u8]) -> u8
     ensures { λ r. ⌜ r ≡ areaRefusal kind (now (area .entry)) (now (held .entry)) ⌝ }
 {
     if is_data(kind) {
-        return joining::records_refusal(area, held);
+        return fitting::records_refusal(area, held);
     }
     0
 }
 
 // The answer to a frame that is not refused: the number after its own is expected.
 fn applied(missed: u16, txfn: Txfn, joined: Joined) -> ApplyAnswer
-    ensures { λ r. ⌜ r ≡ appliedAnswer missed txfn joined ⌝ }
+    ensures { λ r. ⌜ r ≡ joinedAnswer missed txfn joined ⌝ }
 {
     let next = txfn.next();
     ApplyAnswer::Applied {
@@ -148,70 +146,4 @@ pub fn apply(
         listed: 0,
     };
     applied(missed, txfn, unjoined)
-}
-
-pub enum ReceiveAnswer {
-    Received {
-        header: Header,
-        missed: u16,
-        packets: usize,
-        listed: usize,
-        receiver: Receiver,
-    },
-    Refused(u8),
-}
-
-// 1, 2 and 3, whatever the frame holds; 0 for none.
-fn argument_refusal(taps: u32, frame: &[u8], held: usize, hold: &[u8], list: &[u8]) -> u8
-    ensures { λ r. ⌜ r ≡ argumentRefusal taps (now (frame .entry)) held (now (hold .entry)) (now (list .entry)) ⌝ }
-{
-    if !scrambler::are_taps(taps) {
-        return 1;
-    }
-    buffers_refusal(2081, frame, held, hold, list)
-}
-
-fn with_header(header: Header, answer: ApplyAnswer) -> ReceiveAnswer
-    ensures { λ r. ⌜ r ≡ withHeader header answer ⌝ }
-{
-    match answer {
-        ApplyAnswer::Applied {
-            missed,
-            packets,
-            listed,
-            receiver,
-        } => ReceiveAnswer::Received {
-            header,
-            missed,
-            packets,
-            listed,
-            receiver,
-        },
-        ApplyAnswer::Refused(number) => ReceiveAnswer::Refused(number),
-    }
-}
-
-// Receives a frame: it is opened, then applied. Refusals: 1, 2, 3, 7 to 15.
-pub fn receive(
-    taps: u32,
-    frame: &[u8],
-    receiver: Receiver,
-    hold: &mut [u8],
-    list: &mut [u8],
-) -> ReceiveAnswer
-    ensures { λ r. ⌜ ReceiveOutcome taps (now (frame .entry)) receiver (now (hold .entry)) (now (list .entry)) r (now (hold .exit)) (now (list .exit)) ⌝ }
-{
-    let argument = argument_refusal(taps, frame, receiver.held, hold, list);
-    if argument != 0 {
-        return ReceiveAnswer::Refused(argument);
-    }
-    let mut area = [0; 1908];
-    let opened = frame::open(taps, frame, &mut area);
-    match opened {
-        OpenAnswer::Refused(number) => ReceiveAnswer::Refused(number),
-        OpenAnswer::Opened(header) => {
-            let answer = apply(header, &area, receiver, hold, list);
-            with_header(header, answer)
-        }
-    }
 }

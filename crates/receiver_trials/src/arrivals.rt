@@ -40,7 +40,7 @@ pub fn received(body: &[u8], at_hand: &Lent, hold: &mut [u8], list: &mut [u8]) -
         return Outcome::Malformed;
     }
     let frame = lent_bytes::changed(at_hand, changes);
-    let answer = receiver::receive(
+    let answer = receiving::receive(
         taps,
         &frame[0..length],
         receiver,

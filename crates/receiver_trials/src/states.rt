@@ -5,8 +5,8 @@ ghost use lib.ListN.{length};
 use counts::Txfn;
 use header_trials::fields;
 use receiver::Expected;
-use receiver::ReceiveAnswer;
 use receiver::Receiver;
+use receiving::ReceiveAnswer;
 use vectors::numbers;
 
 fn expected_of(is_expected: u8, high: u8, low: u8) -> Expected {

@@ -16,7 +16,7 @@ use Rattle.lent.specs.Written.{written}
 use Rattle.lent.proofs.Outcome.{accepted}
 use Rattle.link.specs.Link.{Packet, ArePackets, Queue, IsRest, IsQueue, pieceThen, cutPacket, cutWaiting, cutRest, cutFrom, cut}
 use Rattle.link.specs.Packing.{busy, Opened, frameFor}
-use Rattle.link.specs.Store.{layoutWaiting, layoutRest, layout, parse}
+use Rattle.link.specs.Store.{layoutPackets, layoutRest, layout, parse}
 use Rattle.link.proofs.RoundTrip.{parse-queue, layout-back, parse-back}
 use Rattle.link.proofs.Sender.{cut-queue}
 use Rattle.packing.specs.Filling.{load}
@@ -49,13 +49,13 @@ abbrev RestBytes : Option (List ℕ) → Type 0
 RestBytes none = Unit {0}
 RestBytes (some rest) = Bytes rest
 
-waiting-bytes : (ps : List Packet) → Bytes (layoutWaiting ps) → AllBytes ps
+waiting-bytes : (ps : List Packet) → Bytes (layoutPackets ps) → AllBytes ps
 waiting-bytes [] b = tt
-waiting-bytes (p ∷ ps) b = (bytes-front p (layoutWaiting ps) (b .1 .1), waiting-bytes ps (bytes-behind p (layoutWaiting ps) (b .1 .1)))
+waiting-bytes (p ∷ ps) b = (bytes-front p (layoutPackets ps) (b .1 .1), waiting-bytes ps (bytes-behind p (layoutPackets ps) (b .1 .1)))
 
-bytes-waiting : (ps : List Packet) → ArePackets ps → AllBytes ps → Bytes (layoutWaiting ps)
+bytes-waiting : (ps : List Packet) → ArePackets ps → AllBytes ps → Bytes (layoutPackets ps)
 bytes-waiting [] a b = tt
-bytes-waiting (p ∷ ps) a b = (omega (arith, a .0 .1), (omega arith, bytes-append p (layoutWaiting ps) (b .0) (bytes-waiting ps (a .1) (b .1))))
+bytes-waiting (p ∷ ps) a b = (omega (arith, a .0 .1), (omega arith, bytes-append p (layoutPackets ps) (b .0) (bytes-waiting ps (a .1) (b .1))))
 
 -- the bytes of a queue, and back
 abbrev QueueBytes : Queue → Type 0
@@ -65,17 +65,17 @@ layout-bytes : (q : Queue) → Bytes (layout q) → QueueBytes q
 unfolding layout
 layout-bytes q = go (q .rest)
   where
-    go : (rest : Option (List ℕ)) → Bytes (layoutRest rest ++ layoutWaiting (q .waiting)) → RestBytes rest × AllBytes (q .waiting)
+    go : (rest : Option (List ℕ)) → Bytes (layoutRest rest ++ layoutPackets (q .waiting)) → RestBytes rest × AllBytes (q .waiting)
     go none b = (tt, waiting-bytes (q .waiting) b)
-    go (some rest) b = (bytes-front rest (layoutWaiting (q .waiting)) (b .1 .1), waiting-bytes (q .waiting) (bytes-behind rest (layoutWaiting (q .waiting)) (b .1 .1)))
+    go (some rest) b = (bytes-front rest (layoutPackets (q .waiting)) (b .1 .1), waiting-bytes (q .waiting) (bytes-behind rest (layoutPackets (q .waiting)) (b .1 .1)))
 
 bytes-layout : (q : Queue) → IsQueue q → QueueBytes q → Bytes (layout q)
 unfolding layout
 bytes-layout q h b = go (q .rest) (h .0) (b .0)
   where
-    go : (rest : Option (List ℕ)) → IsRest rest → RestBytes rest → Bytes (layoutRest rest ++ layoutWaiting (q .waiting))
+    go : (rest : Option (List ℕ)) → IsRest rest → RestBytes rest → Bytes (layoutRest rest ++ layoutPackets (q .waiting))
     go none r x = bytes-waiting (q .waiting) (h .1) (b .1)
-    go (some rest) r x = (omega (arith, r .1), (omega arith, bytes-append rest (layoutWaiting (q .waiting)) x (bytes-waiting (q .waiting) (h .1) (b .1))))
+    go (some rest) r x = (omega (arith, r .1), (omega arith, bytes-append rest (layoutPackets (q .waiting)) x (bytes-waiting (q .waiting) (h .1) (b .1))))
 
 packet-left : (n : ℕ) (p : Packet) (ps : List Packet) → Bytes p → AllBytes ps → QueueBytes (cutPacket n p ps .left)
 packet-left zero p ps x b = (tt, (x, b))

@@ -13,7 +13,7 @@ use Rattle.basics.specs.Lists.{Bytes}
 use Rattle.basics.proofs.Tests.{left-true, right-true}
 use Rattle.lent.proofs.Outcome.{gate, numbered}
 use Rattle.link.specs.Link.{Packet, Queue, Cut}
-use Rattle.link.specs.Store.{layoutRest, layoutWaiting, layout, isWhole}
+use Rattle.link.specs.Store.{layoutRest, layoutPackets, layout, isWhole}
 use Rattle.link.proofs.RoundTrip.{parse-queue, layout-back}
 use Rattle.packing.specs.Filling.{fillWaiting, area}
 use Rattle.packing.proofs.Filling.{fill-cut}
@@ -74,7 +74,7 @@ busy-kind : (q : Queue) (used : ℕ) → used ≡ length (layout q) → cond (eq
 unfolding layout
 busy-kind q used = go (q .rest) (q .waiting)
   where
-    go : (rest : Option (List ℕ)) (ps : List Packet) → used ≡ length (layoutRest rest ++ layoutWaiting ps)
+    go : (rest : Option (List ℕ)) (ps : List Packet) → used ≡ length (layoutRest rest ++ layoutPackets ps)
         → cond (eqb used 0) Idle Data ≡ kindFor (record { rest = rest; waiting = ps })
     go none [] e = rw (eq-eqb used 0 e)
     go none (p ∷ ps) e = rw (ne-eqb used 0 (λ z. omega arith))

@@ -4,7 +4,7 @@ use mathlib.Core.List.{List}
 use Prim.Native.Nat.{ℕ}
 use Rattle.header.specs.Calls.{codeNumber}
 use Rattle.header.proofs.Calls.{code-header-one}
-use Rattle.receiver.proofs.Receiving.{receive-one}
+use Rattle.receiving.proofs.Receiving.{receive-one}
 use Rattle.sender.proofs.Putting.{put-one}
 use Rattle.sending.proofs.Sending.{next-frame-one}
 use Rattle.flat.specs.Answers.{flatPut, flatNext, flatReceive}

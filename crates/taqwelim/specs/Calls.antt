@@ -5,8 +5,8 @@ use mathlib.Core.List.{List}
 use Prim.Native.Nat.{ℕ}
 use Rattle.header.specs.Calls.{CodeHeaderOutcome, codeNumber}
 use Rattle.header.specs.declared.CodeAnswer.{CodeAnswer}
-use Rattle.receiver.specs.Receiving.{ReceiveOutcome}
-use Rattle.receiver.specs.declared.ReceiveAnswer.{ReceiveAnswer}
+use Rattle.receiving.specs.Receiving.{ReceiveOutcome}
+use Rattle.receiving.specs.declared.ReceiveAnswer.{ReceiveAnswer}
 use Rattle.sender.specs.Put.{PutOutcome}
 use Rattle.sending.specs.Next.{NextOutcome}
 use Rattle.sender.specs.declared.PutAnswer.{PutAnswer}

@@ -79,7 +79,7 @@ pub extern "C" fn taqwelim_receive(
 ) -> FlatReceive
     ensures { λ r. ⌜ ReceiveCall taps (now (frame .entry)) receiver (now (hold .entry)) (now (list .entry)) r (now (hold .exit)) (now (list .exit)) ⌝ }
 {
-    let answer = receiver::receive(taps, frame, states::receiver_of(receiver), hold, list);
+    let answer = receiving::receive(taps, frame, states::receiver_of(receiver), hold, list);
     answers::flat_receive(receiver, answer)
 }
 
