@@ -9,7 +9,7 @@ use Rattle.lent.specs.Outcome.{by}
 use Rattle.lent.specs.Written.{written}
 use Rattle.scrambler.specs.Scrambler.{tapsAllowed}
 use Rattle.header.specs.declared.Header.{Header}
-use Rattle.frame.specs.Opening.{openRefusal, openedHeader, openedArea}
+use Rattle.opening.specs.Opening.{openRefusal, openedHeader, openedArea}
 use Rattle.link.specs.Link as link
 use Rattle.receiver.specs.Applying.{received, numberOf, missedOf, packetsOf, receiverAfter, listOf, buffersRefusal}
 use Rattle.receiver.specs.declared.Receiver.{Receiver}

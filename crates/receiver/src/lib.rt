@@ -1,9 +1,9 @@
 // The receiver: packets come out of arriving frames whole and in their turn, or not at all, and the frames missed are counted (01, "Receiving").
-use frame::OpenAnswer;
 use header::FrameKind;
 use header::Header;
 use header::Txfn;
 use joining::Joined;
+use opening::OpenAnswer;
 ghost use mathlib.Core.Path.{_≡_};
 ghost use mathlib.Core.Bool.{cond};
 ghost use lib.Dec.{eqb};
@@ -206,7 +206,7 @@ pub fn receive(
         return ReceiveAnswer::Refused(argument);
     }
     let mut area = [0; 1908];
-    let opened = frame::open(taps, frame, &mut area);
+    let opened = opening::open(taps, frame, &mut area);
     match opened {
         OpenAnswer::Refused(number) => ReceiveAnswer::Refused(number),
         OpenAnswer::Opened(header) => {
