@@ -21,8 +21,8 @@ use Rattle.header.specs.declared.Header.{Header}
 use Rattle.header.specs.declared.CodeAnswer.the-variants as coding
 use Rattle.reading.specs.declared.ReadAnswer.the-variants as reading
 use Rattle.frame.specs.Frame.{preamble}
-use Rattle.frame.specs.Opening.{unscrambled, headerPart, areaChecked, outerRefusal, payloadRefusal, innerRefusal, openRefusal, openedHeader, openedArea, OpenOutcome}
-use Rattle.frame.specs.declared.OpenAnswer.the-variants as opening
+use Rattle.opening.specs.Opening.{unscrambled, headerPart, areaChecked, outerRefusal, payloadRefusal, innerRefusal, openRefusal, openedHeader, openedArea, OpenOutcome}
+use Rattle.opening.specs.declared.OpenAnswer.the-variants as opening
 use Rattle.link.specs.Link.{Piece, fits, missed, heldAfter, receive}
 use Rattle.link.specs.Link as link
 use Rattle.link.specs.Packing.{receiveRead}

@@ -23,12 +23,12 @@ use Rattle.header.specs.declared.FrameKind.{FrameKind}
 use Rattle.header.specs.declared.Header.{Header}
 use Rattle.reading.proofs.Theorems.{read-of-coded, coded-of-read}
 use Rattle.frame.specs.Frame.{frameBytes}
-use Rattle.frame.specs.Opening.{openRefusal, outerRefusal, innerRefusal, unscrambled, openedHeader, openedArea, OpenOutcome}
-use Rattle.frame.specs.declared.OpenAnswer.the-variants.{Opened}
-use Rattle.frame.proofs.Laws.{outer-passed}
-use Rattle.frame.proofs.Built.{built-accepted, built-header, built-area}
-use Rattle.frame.proofs.Accepted.{accepted-frame, accepted-fits, accepted-area}
-use Rattle.frame.proofs.Theorems.{open-of-built, built-of-open}
+use Rattle.opening.specs.Opening.{openRefusal, outerRefusal, innerRefusal, unscrambled, openedHeader, openedArea, OpenOutcome}
+use Rattle.opening.specs.declared.OpenAnswer.the-variants.{Opened}
+use Rattle.opening.proofs.Laws.{outer-passed}
+use Rattle.opening.proofs.Built.{built-accepted, built-header, built-area}
+use Rattle.opening.proofs.Accepted.{accepted-frame, accepted-fits, accepted-area}
+use Rattle.opening.proofs.Theorems.{open-of-built, built-of-open}
 use Rattle.link.specs.Link as link
 use Rattle.link.specs.Link.{Piece, Queue, IsQueue, Cut, cut, fits, missed, heldAfter, receive}
 use Rattle.link.specs.Packing.{busy, receiveRead}

@@ -7,7 +7,7 @@ use lib.ListN.{length, take}
 use Rattle.lent.proofs.Outcome.{accepted}
 use Rattle.lent.proofs.Written.{written-front}
 use Rattle.header.specs.declared.Header.{Header}
-use Rattle.frame.specs.Opening.{openedHeader, openedArea}
+use Rattle.opening.specs.Opening.{openedHeader, openedArea}
 use Rattle.list.specs.Reading.{packetsRead}
 use Rattle.list.proofs.Whole.{list-read}
 use Rattle.receiver.specs.declared.Receiver.{Receiver}

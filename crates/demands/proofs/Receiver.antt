@@ -16,8 +16,8 @@ use Rattle.lent.proofs.Outcome.{accepted, refused, kept}
 use Rattle.lent.proofs.Written.{written-length, written-front}
 use Rattle.scrambler.specs.Scrambler.{tapsAllowed}
 use Rattle.header.specs.declared.Header.{Header}
-use Rattle.frame.specs.Opening.{openRefusal, openedHeader, openedArea}
-use Rattle.frame.proofs.Built.{built-accepted}
+use Rattle.opening.specs.Opening.{openRefusal, openedHeader, openedArea}
+use Rattle.opening.proofs.Built.{built-accepted}
 use Rattle.link.specs.Link as link
 use Rattle.link.specs.Link.{Packet, Piece, onPieces, fits, missed, heldAfter, receive, Answer}
 use Rattle.link.specs.Ledger.{Mark}

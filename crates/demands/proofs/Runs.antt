@@ -19,8 +19,8 @@ use Rattle.scrambler.specs.Scrambler.{tapsAllowed}
 use Rattle.header.specs.Header.{fieldsFit}
 use Rattle.header.specs.declared.Fields.{Fields}
 use Rattle.frame.specs.Frame.{preamble, frameBytes}
-use Rattle.frame.specs.Opening.{openRefusal, outerRefusal, innerRefusal, unscrambled, openedHeader, openedArea}
-use Rattle.frame.proofs.Laws.{outer-passed}
+use Rattle.opening.specs.Opening.{openRefusal, outerRefusal, innerRefusal, unscrambled, openedHeader, openedArea}
+use Rattle.opening.proofs.Laws.{outer-passed}
 use Rattle.link.specs.Link as link
 use Rattle.link.specs.Link.{Packet, IsPacket, Queue, empty, withPacket, pieceThen, cutPacket, cutWaiting, cutRest, cutFrom, cut, Call}
 use Rattle.link.specs.Ledger.{accepted as isAccepted, Limit}

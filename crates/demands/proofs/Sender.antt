@@ -9,8 +9,8 @@ use Rattle.header.specs.declared.Fields.{Fields}
 use Rattle.header.specs.declared.FrameKind.{FrameKind}
 use Rattle.header.specs.declared.FrameKind.the-variants.{Idle, Data}
 use Rattle.header.specs.declared.Header.{Header}
-use Rattle.frame.specs.Opening.{openedHeader, openedArea}
-use Rattle.frame.proofs.Built.{built-header, built-area}
+use Rattle.opening.specs.Opening.{openedHeader, openedArea}
+use Rattle.opening.proofs.Built.{built-header, built-area}
 use Rattle.link.specs.Link.{Packet, ArePackets, Piece, Queue, IsQueue, empty, withPacket, cut, Call, putsOf, framesOf, queueAfter}
 use Rattle.link.specs.Link as link
 use Rattle.link.specs.Packing.{Opened, frameFor, piecesIn}

@@ -16,9 +16,9 @@ use Rattle.header.specs.declared.CodeAnswer.{CodeAnswer}
 use Rattle.header.specs.declared.CodeAnswer.the-variants as coding
 use Rattle.reading.specs.declared.ReadAnswer.{ReadAnswer}
 use Rattle.reading.specs.declared.ReadAnswer.the-variants as reading
-use Rattle.frame.specs.Opening.{OpenOutcome}
-use Rattle.frame.specs.declared.OpenAnswer.{OpenAnswer}
-use Rattle.frame.specs.declared.OpenAnswer.the-variants as opening
+use Rattle.opening.specs.Opening.{OpenOutcome}
+use Rattle.opening.specs.declared.OpenAnswer.{OpenAnswer}
+use Rattle.opening.specs.declared.OpenAnswer.the-variants as opening
 use Rattle.sender.specs.Put.{PutOutcome}
 use Rattle.sending.specs.Next.{NextOutcome}
 use Rattle.sender.specs.declared.Sender.{Sender}

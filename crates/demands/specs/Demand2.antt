@@ -19,9 +19,9 @@ use Rattle.header.specs.declared.FrameKind.the-variants.{Idle, Data}
 use Rattle.header.specs.declared.Header.{Header}
 use Rattle.reading.specs.declared.ReadAnswer.the-variants.{Read}
 use Rattle.frame.specs.Frame.{frameBytes}
-use Rattle.frame.specs.Opening.{OpenOutcome}
-use Rattle.frame.specs.declared.OpenAnswer.{OpenAnswer}
-use Rattle.frame.specs.declared.OpenAnswer.the-variants.{Opened}
+use Rattle.opening.specs.Opening.{OpenOutcome}
+use Rattle.opening.specs.declared.OpenAnswer.{OpenAnswer}
+use Rattle.opening.specs.declared.OpenAnswer.the-variants.{Opened}
 use Rattle.link.specs.Link.{Piece, Queue, cut, fits, missed, heldAfter}
 use Rattle.link.specs.Packing.{busy}
 use Rattle.marks.specs.Queue.{queueIn}

@@ -11,7 +11,7 @@ use lib.ListN.{length, take}
 use Rattle.basics.specs.Lists.{Bytes}
 use Rattle.scrambler.specs.Scrambler.{tapsAllowed}
 use Rattle.header.specs.declared.Fields.{Fields}
-use Rattle.frame.specs.Opening.{openedHeader, openedArea}
+use Rattle.opening.specs.Opening.{openedHeader, openedArea}
 use Rattle.link.specs.Link.{Packet, Piece, Queue, Answer, taken, refused}
 use Rattle.link.specs.Ledger.{Mark, lost, accepted, Limit}
 use Rattle.link.specs.Demand3.{Demand3}

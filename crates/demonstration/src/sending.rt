@@ -1,7 +1,7 @@
 // The near end: blocks are put, and the next frame is built.
-use counts::Rxfn;
 use crate::session::Session;
 use crate::session::TAPS;
+use counts::Rxfn;
 use fast_channel::FastChannel;
 use header::Fields;
 use header::FrameKind;

@@ -1,8 +1,8 @@
 // A header's fields: bools and the kind are numbers, and a number that stands for none is refused as a field to send (6).
-use counts::Rxfn;
-use counts::Txfn;
 use crate::messages;
 use crate::messages::FlatMessage;
+use counts::Rxfn;
+use counts::Txfn;
 use fast_channel::FastChannel;
 use header::Fields;
 use header::Header;

@@ -4,8 +4,8 @@ ghost use Prim.Native.Nat.{_≤_};
 ghost use lib.ListN.{length};
 use crate::Lent;
 use crate::lent_bytes;
-use frame::OpenAnswer;
 use header_trials::fields;
+use opening::OpenAnswer;
 use vectors::numbers;
 use vectors::outcome;
 use vectors::outcome::Outcome;
@@ -58,7 +58,7 @@ pub fn opened(body: &[u8], at_hand: &Lent) -> Outcome {
     }
     let frame = lent_bytes::kept_behind(at_hand);
     let mut found = lent_bytes::kept();
-    let answer = open_bytes(frame::open(taps(body), &frame[0..2081], &mut found[0..room]));
+    let answer = open_bytes(opening::open(taps(body), &frame[0..2081], &mut found[0..room]));
     let area = lent_bytes::area(&body[31..]);
     let expected = lent_bytes::kept_behind(&area);
     outcome::both(
@@ -82,7 +82,7 @@ pub fn refused(body: &[u8], at_hand: &Lent) -> Outcome {
     }
     let frame = lent_bytes::changed(at_hand, &body[9..]);
     let mut found = lent_bytes::kept();
-    let answer = open_bytes(frame::open(taps(body), &frame[0..length], &mut found[0..room]));
+    let answer = open_bytes(opening::open(taps(body), &frame[0..length], &mut found[0..room]));
     let expected = lent_bytes::kept();
     outcome::both(
         outcome::of(&answer[0..1], &body[8..9]),

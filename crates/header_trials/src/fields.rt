@@ -3,10 +3,10 @@
 // wire, so that one that is too large can be given.
 ghost use Prim.Native.Nat.{_≤_};
 ghost use lib.ListN.{length};
-use counts::Rxfn;
-use counts::Txfn;
 use crate::messages;
 use crate::messages::Message;
+use counts::Rxfn;
+use counts::Txfn;
 use header::Fields;
 use header::Header;
 use vectors::numbers;

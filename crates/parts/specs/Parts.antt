@@ -8,7 +8,7 @@ use Rattle.lent.specs.Outcome.{by}
 use Rattle.lent.specs.Written.{written}
 use Rattle.interleaving.specs.Payload.{codedPayload}
 use Rattle.frame.specs.Frame.{frameBytes}
-use Rattle.frame.specs.Opening.{openRefusal, openedArea}
+use Rattle.opening.specs.Opening.{openRefusal, openedArea}
 use Rattle.header.specs.declared.Header.{Header}
 use Rattle.header.specs.declared.FrameKind.the-variants.{Data}
 use Rattle.fast_channel.specs.declared.FastChannel.the-variants.{Absent}

@@ -2,15 +2,15 @@
 use counts::Rxfn;
 use counts::Txfn;
 use fast_channel::FastChannel;
-use frame::OpenAnswer;
 use header::Fields;
 use header::FrameKind;
 use header::Header;
+use opening::OpenAnswer;
 ghost use mathlib.Core.Path.{_≡_};
 ghost use Rattle.crc.specs.Crc.{crc-32};
 ghost use Rattle.scrambler.specs.Scrambler.{scrambled};
 ghost use Rattle.interleaving.specs.Payload.{areCodewords};
-ghost use Rattle.frame.specs.Opening.{openRefusal, openNumber};
+ghost use Rattle.opening.specs.Opening.{openRefusal, openNumber};
 ghost use Rattle.header.specs.Header.{bit};
 ghost use Rattle.parts.specs.Parts.{plainHeader, parityOut, builtOut, openedOut};
 
@@ -93,5 +93,5 @@ pub extern "C" fn part_open(taps: u32, frame: &[u8], area: &mut [u8]) -> u8
     ensures { λ r. ⌜ r ≡ openRefusal taps (now (frame .entry)) (now (area .entry)) ⌝ }
     ensures bytes { λ _. ⌜ now (area .exit) ≡ openedOut taps (now (frame .entry)) (now (area .entry)) ⌝ }
 {
-    number_of(frame::open(taps, frame, area))
+    number_of(opening::open(taps, frame, area))
 }

@@ -16,9 +16,9 @@ use Rattle.lent.proofs.Outcome.{accepted, gate, refused-by}
 use Rattle.lent.proofs.Written.{written-whole}
 use Rattle.scrambler.specs.Scrambler.{tapsAllowed}
 use Rattle.header.specs.declared.Header.{Header}
-use Rattle.frame.specs.Opening.{unscrambled, openedHeader, openedArea, openAnswer}
-use Rattle.frame.specs.declared.OpenAnswer.the-variants as opening
-use Rattle.frame.proofs.Laws.{unscrambled-length}
+use Rattle.opening.specs.Opening.{unscrambled, openedHeader, openedArea, openAnswer}
+use Rattle.opening.specs.declared.OpenAnswer.the-variants as opening
+use Rattle.opening.proofs.Laws.{unscrambled-length}
 use Rattle.link.specs.Link as link
 use Rattle.receiver.specs.declared.Receiver.{Receiver}
 use Rattle.receiver.specs.declared.ApplyAnswer.{ApplyAnswer}

@@ -7,7 +7,7 @@ use lib.ListN.{length}
 use Rattle.lent.proofs.Outcome.{accepted, numbered, both-zero}
 use Rattle.lent.proofs.Written.{written-length}
 use Rattle.header.specs.declared.Header.{Header}
-use Rattle.frame.specs.Opening.{openedHeader, openedArea}
+use Rattle.opening.specs.Opening.{openedHeader, openedArea}
 use Rattle.receiver.specs.declared.Receiver.{Receiver}
 use Rattle.receiving.specs.declared.ReceiveAnswer.{ReceiveAnswer}
 use Rattle.receiving.specs.declared.ReceiveAnswer.the-variants.{Received, Refused}

@@ -1,6 +1,6 @@
 // Receiving a frame: it is opened, then applied to the receiver (01, "Receiving").
-use frame::OpenAnswer;
 use header::Header;
+use opening::OpenAnswer;
 use receiver::ApplyAnswer;
 use receiver::Receiver;
 ghost use mathlib.Core.Path.{_≡_};
@@ -62,7 +62,7 @@ pub fn receive(
         return ReceiveAnswer::Refused(argument);
     }
     let mut area = [0; 1908];
-    let opened = frame::open(taps, frame, &mut area);
+    let opened = opening::open(taps, frame, &mut area);
     match opened {
         OpenAnswer::Refused(number) => ReceiveAnswer::Refused(number),
         OpenAnswer::Opened(header) => {

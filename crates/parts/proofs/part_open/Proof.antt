@@ -1,6 +1,6 @@
 use mathlib.Core.Path.{ap, _∙_}
-use Rattle.frame.specs.Opening.{openNumber}
-use Rattle.frame.proofs.Theorems.{open-numbers}
+use Rattle.opening.specs.Opening.{openNumber}
+use Rattle.opening.proofs.Theorems.{open-numbers}
 use borrow.Author.Needs.{needs}
 use Rattle.parts.proofs.part_open.Statement.{statement}
 use Rattle.parts.proofs.part_open.Tie as tie

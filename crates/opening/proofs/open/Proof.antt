@@ -2,15 +2,15 @@ use native.Mathlib.Omega.{arith}
 use mathlib.Core.Path.{_≡_, sym, ap, _∙_}
 use lib.ListN.{length, drop, length-drop}
 use Rattle.lent.specs.Written.{written}
-use Rattle.frame.specs.Opening.{unscrambled, innerRefusal, openedHeader, openedArea, headerPart, areaPart}
+use Rattle.opening.specs.Opening.{unscrambled, innerRefusal, openedHeader, openedArea, headerPart, areaPart}
 use lib.Seq.{length-take-le}
 use Rattle.lent.proofs.Outcome.{refused, kept, accepted}
 use Rattle.reading.specs.Reading.{headerOf}
-use Rattle.frame.specs.declared.OpenAnswer.the-variants.{Opened, Refused}
-use Rattle.frame.proofs.Laws.{outer-first, inner-then, outer-passed, unscrambled-length}
+use Rattle.opening.specs.declared.OpenAnswer.the-variants.{Opened, Refused}
+use Rattle.opening.proofs.Laws.{outer-first, inner-then, outer-passed, unscrambled-length}
 use borrow.Author.Needs.{needs}
-use Rattle.frame.proofs.open.Statement.{statement}
-use Rattle.frame.proofs.open.Tie as tie
+use Rattle.opening.proofs.open.Statement.{statement}
+use Rattle.opening.proofs.open.Tie as tie
 
 outer-refusal-requires : tie.Need-outer-refusal-requires
 outer-refusal-requires c κs = search needs

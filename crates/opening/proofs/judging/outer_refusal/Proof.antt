@@ -4,10 +4,10 @@ use borrow.Author.Tests.{le-leb, lt-leb, eq-eqb, ne-eqb, not-true, not-false}
 use lib.ListN.{take}
 use lib.Seq.{length-take-le}
 use Rattle.basics.specs.Lists.{same}
-use Rattle.frame.specs.Opening.{outerRefusal}
+use Rattle.opening.specs.Opening.{outerRefusal}
 use borrow.Author.Needs.{needs}
-use Rattle.frame.proofs.judging.outer_refusal.Statement.{statement}
-use Rattle.frame.proofs.judging.outer_refusal.Tie as tie
+use Rattle.opening.proofs.judging.outer_refusal.Statement.{statement}
+use Rattle.opening.proofs.judging.outer_refusal.Tie as tie
 
 are-taps-requires : tie.Need-are-taps-requires
 are-taps-requires c κs = search needs

@@ -1,11 +1,11 @@
 use mathlib.Core.Path.{sym, ap, _∙_}
 use borrow.Author.Tests.{not-true, not-false}
-use Rattle.frame.specs.Opening.{payloadRefusal}
+use Rattle.opening.specs.Opening.{payloadRefusal}
 use Rattle.interleaving.specs.Payload.{areCodewords}
-use Rattle.frame.proofs.Laws.{rest}
+use Rattle.opening.proofs.Laws.{rest}
 use borrow.Author.Needs.{needs}
-use Rattle.frame.proofs.judging.payload_refusal.Statement.{statement}
-use Rattle.frame.proofs.judging.payload_refusal.Tie as tie
+use Rattle.opening.proofs.judging.payload_refusal.Statement.{statement}
+use Rattle.opening.proofs.judging.payload_refusal.Tie as tie
 
 sub-are-codewords : tie.Need-sub-are-codewords
 sub-are-codewords c = search needs

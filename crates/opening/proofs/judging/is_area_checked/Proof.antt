@@ -1,10 +1,10 @@
 use mathlib.Core.Path.{ap, _∙_}
 use lib.ListN.{take, drop}
-use Rattle.frame.specs.Opening.{areaChecked}
+use Rattle.opening.specs.Opening.{areaChecked}
 use Rattle.basics.specs.Lists.{same}
 use borrow.Author.Needs.{needs}
-use Rattle.frame.proofs.judging.is_area_checked.Statement.{statement}
-use Rattle.frame.proofs.judging.is_area_checked.Tie as tie
+use Rattle.opening.proofs.judging.is_area_checked.Statement.{statement}
+use Rattle.opening.proofs.judging.is_area_checked.Tie as tie
 
 sub-area-check : tie.Need-sub-area-check
 sub-area-check c = search needs

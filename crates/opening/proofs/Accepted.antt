@@ -20,9 +20,9 @@ use Rattle.scrambler.proofs.Laws.{scrambled-twice, scrambled-bytes}
 use Rattle.header.specs.Header.{headerBytes, headerFits}
 use Rattle.reading.specs.Reading.{headerOf, headerRefusal}
 use Rattle.reading.proofs.Received.{received-fits, header-again}
 use Rattle.frame.specs.Frame.{codedHeader, areaCheck, areaPayload, frameBytes}
-use Rattle.frame.specs.Opening.{unscrambled, headerPart, areaPart, areaChecked, outerRefusal, payloadRefusal, innerRefusal, openRefusal, openedHeader, openedArea}
-use Rattle.frame.proofs.Laws.{Outer, outer-passed, unscrambled-length}
+use Rattle.opening.specs.Opening.{unscrambled, headerPart, areaPart, areaChecked, outerRefusal, payloadRefusal, innerRefusal, openRefusal, openedHeader, openedArea}
+use Rattle.opening.proofs.Laws.{Outer, outer-passed, unscrambled-length}
 
 module _ (taps : ℕ) (frame buffer : List ℕ) (bytes : Bytes frame) (none : openRefusal taps frame buffer ≡ 0) where
   abbrev body : List ℕ

@@ -21,9 +21,10 @@ use Rattle.reading.specs.Reading.{headerOf, headerRefusal}
 use Rattle.header.specs.declared.Header.{Header}
 use Rattle.header.proofs.Bytes.{header-length}
 use Rattle.reading.proofs.Sent.{sendable, header-back, none-refused}
 use Rattle.frame.specs.Frame.{preamble, codedHeader, areaCheck, areaPayload, frameBytes}
-use Rattle.frame.specs.Opening.{unscrambled, headerPart, areaPart, areaChecked, payloadRefusal, innerRefusal, openRefusal, openedHeader, openedArea}
-use Rattle.frame.proofs.Laws.{payload-length, data-length, coded-header-length, body-length, inner-then, outer-zero}
+use Rattle.frame.proofs.Laws.{payload-length, data-length, coded-header-length, body-length}
+use Rattle.opening.specs.Opening.{unscrambled, headerPart, areaPart, areaChecked, payloadRefusal, innerRefusal, openRefusal, openedHeader, openedArea}
+use Rattle.opening.proofs.Laws.{inner-then, outer-zero}
 
 module _ (taps : ℕ) (header : Header) (area : List ℕ) (long : length area ≡ 1908) where
   abbrev body : List ℕ

@@ -13,9 +13,9 @@ use Rattle.interleaving.specs.Payload.{areCodewords}
 use Rattle.scrambler.specs.Scrambler.{tapsAllowed, scrambled}
 use Rattle.reading.specs.Reading.{headerOf, headerRefusal}
 use Rattle.header.specs.declared.Header.{Header}
 use Rattle.frame.specs.Frame.{preamble, areaCheck}
-use Rattle.frame.specs.declared.OpenAnswer.{OpenAnswer}
-use Rattle.frame.specs.declared.OpenAnswer.the-variants.{Opened, Refused}
+use Rattle.opening.specs.declared.OpenAnswer.{OpenAnswer}
+use Rattle.opening.specs.declared.OpenAnswer.the-variants.{Opened, Refused}
 
 -- the 2,072 bytes after the preamble, with the scrambler's bits taken off
 unfoldable pub unscrambled : ℕ → List ℕ → List ℕ

@@ -3,14 +3,14 @@ use mathlib.Core.Path.{ap, _∙_}
 use lib.ListN.{drop, length-drop}
 use Rattle.lent.specs.Written.{written}
 use Rattle.lent.proofs.Written.{written-whole}
-use Rattle.frame.specs.Opening.{unscrambled}
+use Rattle.opening.specs.Opening.{unscrambled}
 use Rattle.basics.specs.Lists.{zeros}
 use Rattle.basics.proofs.Lists.{zeros-length}
-use Rattle.frame.proofs.Laws.{rest}
+use Rattle.opening.proofs.Laws.{rest}
 use Rattle.scrambler.specs.Scrambler.{scrambled}
 use borrow.Author.Needs.{needs}
-use Rattle.frame.proofs.judging.unscrambled.Statement.{statement}
-use Rattle.frame.proofs.judging.unscrambled.Tie as tie
+use Rattle.opening.proofs.judging.unscrambled.Statement.{statement}
+use Rattle.opening.proofs.judging.unscrambled.Tie as tie
 
 slice-aggregate-write-at : tie.Need-slice-aggregate-write-at
 slice-aggregate-write-at c = search needs

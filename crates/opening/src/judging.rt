@@ -1,8 +1,7 @@
 // What is asked of a frame that arrived, in the order of the refusals' numbers.
-use crate::coding;
 ghost use mathlib.Core.Path.{_≡_};
 ghost use lib.ListN.{length};
-ghost use Rattle.frame.specs.Opening.{unscrambled, outerRefusal, innerRefusal, payloadRefusal, areaChecked};
+ghost use Rattle.opening.specs.Opening.{unscrambled, outerRefusal, innerRefusal, payloadRefusal, areaChecked};
 
 // 1, 2 and 7, before the frame is unscrambled.
 pub fn outer_refusal(taps: u32, frame: &[u8], area: &[u8]) -> u8
@@ -17,7 +16,7 @@ pub fn outer_refusal(taps: u32, frame: &[u8], area: &[u8]) -> u8
     if area.len() < 1908 {
         return 2;
     }
-    let preamble = coding::preamble();
+    let preamble = frame::preamble();
     if lent::are_same(&frame[..9], &preamble) {
         0
     } else {
@@ -66,6 +65,6 @@ fn is_area_checked(body: &[u8]) -> bool
     requires { ⌜ length (now body) ≡ 2072 ⌝ }
     ensures { λ r. ⌜ r ≡ areaChecked (now (body .entry)) ⌝ }
 {
-    let check = coding::area_check(&body[32..1940]);
+    let check = frame::area_check(&body[32..1940]);
     lent::are_same(&body[1940..1944], &check)
 }

@@ -11,12 +11,12 @@ use Rattle.lent.proofs.Outcome.{accepted, numbered}
 use Rattle.scrambler.specs.Scrambler.{tapsAllowed}
 use Rattle.header.specs.Header.{headerFits}
 use Rattle.header.specs.declared.Header.{Header}
 use Rattle.frame.specs.Frame.{frameBytes}
-use Rattle.frame.specs.Opening.{openRefusal, openedHeader, openedArea, openNumber, openAnswer, OpenOutcome}
-use Rattle.frame.specs.declared.OpenAnswer.{OpenAnswer}
-use Rattle.frame.specs.declared.OpenAnswer.the-variants.{Opened, Refused}
-use Rattle.frame.proofs.Built.{built-accepted, built-header, built-area}
-use Rattle.frame.proofs.Accepted.{accepted-frame, accepted-fits, accepted-taps, accepted-area}
+use Rattle.opening.specs.Opening.{openRefusal, openedHeader, openedArea, openNumber, openAnswer, OpenOutcome}
+use Rattle.opening.specs.declared.OpenAnswer.{OpenAnswer}
+use Rattle.opening.specs.declared.OpenAnswer.the-variants.{Opened, Refused}
+use Rattle.opening.proofs.Built.{built-accepted, built-header, built-area}
+use Rattle.opening.proofs.Accepted.{accepted-frame, accepted-fits, accepted-taps, accepted-area}
 
 -- the answer's number is the one that it was made for
 pub open-numbers : (number : ℕ) (header : Header) → openNumber (openAnswer number header) ≡ number

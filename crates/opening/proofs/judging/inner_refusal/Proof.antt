@@ -2,11 +2,11 @@ use native.Mathlib.Omega.{arith}
 use mathlib.Core.Path.{sym, _∙_}
 use borrow.Author.Tests.{not-true, not-false}
 use lib.Seq.{length-take-le}
-use Rattle.frame.specs.Opening.{innerRefusal}
+use Rattle.opening.specs.Opening.{innerRefusal}
 use Rattle.lent.proofs.Outcome.{accepted, refused-by}
 use borrow.Author.Needs.{needs}
-use Rattle.frame.proofs.judging.inner_refusal.Statement.{statement}
-use Rattle.frame.proofs.judging.inner_refusal.Tie as tie
+use Rattle.opening.proofs.judging.inner_refusal.Statement.{statement}
+use Rattle.opening.proofs.judging.inner_refusal.Tie as tie
 
 slice-aggregate-is-codeword : tie.Need-slice-aggregate-is-codeword
 slice-aggregate-is-codeword c =

@@ -1,0 +1,4 @@
+pub mod Laws
+pub mod Built
+pub mod Accepted
+pub mod Theorems
