@@ -1,5 +1,5 @@
 // A session over a shaken beam: blocks of samples are put as packets, frames are built, lost, damaged or received, and packets come out.
-mod receiving;
+mod arriving;
 mod sending;
 mod session;
 
@@ -41,7 +41,7 @@ fn step(
     line::number_before(&mut out, 5, count as u64);
     let session = put_due(before, count, queue, &mut out);
     let sent = sending::send(session, queue, &mut frame, &mut out);
-    let done = receiving::through_beam(sent, count, &mut frame, hold, list, &mut out);
+    let done = arriving::through_beam(sent, count, &mut frame, hold, list, &mut out);
     let end = line::trimmed(&out);
     text::say(&out[0..end]);
     text::say(b"\n");

@@ -1,7 +1,7 @@
 use native.Mathlib.Omega.{arith}
 use borrow.Author.Needs.{needs}
-use Rattle.demonstration.proofs.receiving.through_beam.Statement.{statement}
-use Rattle.demonstration.proofs.receiving.through_beam.Tie as tie
+use Rattle.demonstration.proofs.arriving.through_beam.Statement.{statement}
+use Rattle.demonstration.proofs.arriving.through_beam.Tie as tie
 
 shake-at-requires : tie.Need-shake-at-requires
 shake-at-requires c κs = search needs

@@ -1,7 +1,7 @@
 use native.Mathlib.Omega.{arith}
 use borrow.Author.Needs.{needs}
-use Rattle.demonstration.proofs.receiving.arrive.Statement.{statement}
-use Rattle.demonstration.proofs.receiving.arrive.Tie as tie
+use Rattle.demonstration.proofs.arriving.arrive.Statement.{statement}
+use Rattle.demonstration.proofs.arriving.arrive.Tie as tie
 
 receive-requires : tie.Need-receive-requires
 receive-requires c κs = search needs

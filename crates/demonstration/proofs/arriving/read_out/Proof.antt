@@ -2,8 +2,8 @@ use native.Mathlib.Omega.{arith}
 use mathlib.Core.Path.{_≡_}
 use lib.ListN.{length}
 use borrow.Author.Needs.{needs}
-use Rattle.demonstration.proofs.receiving.read_out.Statement.{statement}
-use Rattle.demonstration.proofs.receiving.read_out.Tie as tie
+use Rattle.demonstration.proofs.arriving.read_out.Statement.{statement}
+use Rattle.demonstration.proofs.arriving.read_out.Tie as tie
 
 abbrev Inv-loop : tie.InvT-loop
 Inv-loop listed packets out₀ session₀ position₀ column₀ left₀ t16 out session position column left = length out ≡ length out₀
