@@ -81,7 +81,7 @@ pub fn taps(body: &[u8]) -> Outcome {
     if body.len() < 4 {
         return Outcome::Malformed;
     }
-    let taps = numbers::of_four(body[0], body[1], body[2], body[3]);
+    let taps = numbers::four_at(body, 0);
     let found = [scrambler::are_taps(taps) as u8];
     outcome::of(&found, &body[4..])
 }
@@ -91,7 +91,7 @@ pub fn scrambled(body: &mut [u8]) -> Outcome {
     if body.len() < 4 {
         return Outcome::Malformed;
     }
-    let taps = numbers::of_four(body[0], body[1], body[2], body[3]);
+    let taps = numbers::four_at(body, 0);
     let end = 4 + (body.len() - 4) / 2;
     scrambler::scramble(taps, &mut body[4..end]);
     outcome::of(&body[4..end], &body[end..])

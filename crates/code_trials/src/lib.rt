@@ -1,3 +1,4 @@
 // The kinds of record that try the codes; and check values that are published.
-pub mod codes;
+mod codes;
+pub mod kinds;
 pub mod published;

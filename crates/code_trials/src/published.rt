@@ -24,7 +24,8 @@ const GENERATOR: [u8; 17] = [
     1,
 ];
 
-fn check_sums(count: Count) -> Count {
+// What the catalogue tries a CRC on.
+fn catalogue_checks(count: Count) -> Count {
     count
         .with_number(
             b"CRC-16 of \"123456789\"",
@@ -38,10 +39,22 @@ fn check_sums(count: Count) -> Count {
             0x89a1897f,
             8,
         )
+}
+
+fn one_byte(count: Count) -> Count {
+    count
         .with_number(b"CRC-16 of 01", crc::crc_16(&[1]) as u64, 0x1021, 4)
         .with_number(b"CRC-32 of 01", crc::crc_32(&[1]) as u64, 0x04c11db7, 8)
+}
+
+fn no_byte(count: Count) -> Count {
+    count
         .with_number(b"CRC-16 of nothing", crc::crc_16(&[]) as u64, 0, 4)
         .with_number(b"CRC-32 of nothing", crc::crc_32(&[]) as u64, 0, 8)
+}
+
+fn check_sums(count: Count) -> Count {
+    no_byte(one_byte(catalogue_checks(count)))
 }
 
 fn powers(count: Count) -> Count {

@@ -15,11 +15,20 @@ pub fn none_at_hand() -> Lent {
     [0u8; 2100]
 }
 
-// The taps, the first four bytes of a body.
-fn taps(body: &[u8]) -> u32
-    requires { ⌜ 4 ≤ length (now body) ⌝ }
+// The frame built from a body, in bytes lent for it.
+fn frame_of(body: &[u8]) -> Lent
+    requires { ⌜ 2110 ≤ length (now body) ⌝ }
 {
-    numbers::of_four(body[0], body[1], body[2], body[3])
+    let area = lent_bytes::area(&body[2109..]);
+    let given = fields::first(&body[4..]);
+    let mut found = lent_bytes::kept();
+    frame::build(
+        numbers::four_at(body, 0),
+        fields::header(&given),
+        &area,
+        &mut found,
+    );
+    found
 }
 
 // Taps, the fields of a header, the frame, the area: the frame is built from the others, and compared bit for bit.
@@ -31,11 +40,9 @@ pub fn built(body: &[u8], at_hand: &mut Lent) -> Outcome {
     if !fields::are_a_header(&given) {
         return Outcome::Malformed;
     }
-    let area = lent_bytes::area(&body[2109..]);
-    let mut found = lent_bytes::kept();
-    frame::build(taps(body), fields::header(&given), &area, &mut found);
     let expected = lent_bytes::kept_behind(&body[28..2109]);
     *at_hand = expected;
+    let found = frame_of(body);
     lent_bytes::outcome(&found, &expected)
 }
 
@@ -47,18 +54,25 @@ fn open_bytes(answer: OpenAnswer) -> [u8; 25] {
     }
 }
 
+// The same of a frame, by the taps in the first four bytes of a body.
+fn answer_of(body: &[u8], frame: &[u8], area: &mut [u8]) -> [u8; 25]
+    requires { ⌜ 4 ≤ length (now body) ⌝ }
+{
+    open_bytes(opening::open(numbers::four_at(body, 0), frame, area))
+}
+
 // Taps, the room lent for the area, what opening the frame at hand answers, the area that it then writes.
 pub fn opened(body: &[u8], at_hand: &Lent) -> Outcome {
     if body.len() < 32 {
         return Outcome::Malformed;
     }
-    let room = numbers::of_two(body[4], body[5]) as usize;
+    let room = numbers::two_at(body, 4) as usize;
     if 2100 < room {
         return Outcome::Malformed;
     }
     let frame = lent_bytes::kept_behind(at_hand);
     let mut found = lent_bytes::kept();
-    let answer = open_bytes(opening::open(taps(body), &frame[0..2081], &mut found[0..room]));
+    let answer = answer_of(body, &frame[0..2081], &mut found[0..room]);
     let area = lent_bytes::area(&body[31..]);
     let expected = lent_bytes::kept_behind(&area);
     outcome::both(
@@ -72,8 +86,8 @@ pub fn refused(body: &[u8], at_hand: &Lent) -> Outcome {
     if body.len() < 9 {
         return Outcome::Malformed;
     }
-    let length = numbers::of_two(body[4], body[5]) as usize;
-    let room = numbers::of_two(body[6], body[7]) as usize;
+    let length = numbers::two_at(body, 4) as usize;
+    let room = numbers::two_at(body, 6) as usize;
     if 2100 < length {
         return Outcome::Malformed;
     }
@@ -82,7 +96,7 @@ pub fn refused(body: &[u8], at_hand: &Lent) -> Outcome {
     }
     let frame = lent_bytes::changed(at_hand, &body[9..]);
     let mut found = lent_bytes::kept();
-    let answer = open_bytes(opening::open(taps(body), &frame[0..length], &mut found[0..room]));
+    let answer = answer_of(body, &frame[0..length], &mut found[0..room]);
     let expected = lent_bytes::kept();
     outcome::both(
         outcome::of(&answer[0..1], &body[8..9]),

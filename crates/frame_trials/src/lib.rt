@@ -1,5 +1,6 @@
 // The kinds of record that try whole frames; and lent bytes, for those of sender and receiver.
 pub mod frames;
+pub mod kinds;
 pub mod lent_bytes;
 
 // What is lent to a call and compared after it: more bytes than a frame or an area has, so that a byte written past its end

@@ -7,37 +7,32 @@ use crate::messages;
 use crate::messages::Message;
 use counts::Rxfn;
 use counts::Txfn;
+use fast_channel::FastChannel;
 use header::Fields;
 use header::Header;
 use vectors::numbers;
 
-// The 16-bit number of two bytes.
-pub fn number_of(high: u8, low: u8) -> u16 {
-    numbers::of_two(high, low) as u16
-}
-
-fn stamp_of(bytes: &[u8; 24]) -> u64 {
-    let high = numbers::of_four(bytes[7], bytes[8], bytes[9], bytes[10]);
-    let low = numbers::of_four(bytes[11], bytes[12], bytes[13], bytes[14]);
-    numbers::of_eight(high, low)
-}
-
-// Every field of a header.
-pub fn bytes(header: Header) -> [u8; 24] {
-    let kind = header.kind;
-    let fields = header.fields;
-    let channel = fields.message;
+fn message_bytes(channel: FastChannel) -> [u8; 7] {
     let message = messages::numbers(channel);
-    let txfn = numbers::two_bytes(header.txfn.0);
-    let rxfn = numbers::two_bytes(fields.rxfn.0);
-    let stamp = numbers::eight_bytes(fields.stamp);
     let first = numbers::two_bytes(message.first);
     let second = numbers::two_bytes(message.second);
     let third = numbers::two_bytes(message.third);
     [
-        txfn[0],
-        txfn[1],
-        header::coding::kind_number(kind),
+        message.kind,
+        first[0],
+        first[1],
+        second[0],
+        second[1],
+        third[0],
+        third[1],
+    ]
+}
+
+// All fields but TXFN, the type and the message.
+fn middle_bytes(fields: Fields) -> [u8; 14] {
+    let rxfn = numbers::two_bytes(fields.rxfn.0);
+    let stamp = numbers::eight_bytes(fields.stamp);
+    [
         rxfn[0],
         rxfn[1],
         fields.ack as u8,
@@ -52,40 +47,60 @@ pub fn bytes(header: Header) -> [u8; 24] {
         stamp[7],
         fields.seconds,
         fields.applies,
-        message.kind,
-        first[0],
-        first[1],
-        second[0],
-        second[1],
-        third[0],
-        third[1],
     ]
 }
 
-fn message_of(bytes: &[u8; 24]) -> Message {
+// All fields but TXFN and the type, at their places.
+fn fields_bytes(fields: Fields) -> [u8; 24] {
+    let message = fields.message;
+    let mut bytes = [0u8; 24];
+    lent::write_at(&mut bytes, 3, &middle_bytes(fields));
+    lent::write_at(&mut bytes, 17, &message_bytes(message));
+    bytes
+}
+
+// Every field of a header.
+pub fn bytes(header: Header) -> [u8; 24] {
+    let kind = header.kind;
+    let fields = header.fields;
+    let mut bytes = fields_bytes(fields);
+    lent::write_at(&mut bytes, 0, &numbers::two_bytes(header.txfn.0));
+    bytes[2] = header::coding::kind_number(kind);
+    bytes
+}
+
+fn message_of(bytes: &[u8]) -> Message
+    requires { ⌜ 24 ≤ length (now bytes) ⌝ }
+{
     Message {
         kind: bytes[17],
-        first: number_of(bytes[18], bytes[19]),
-        second: number_of(bytes[20], bytes[21]),
-        third: number_of(bytes[22], bytes[23]),
+        first: numbers::two_at(bytes, 18),
+        second: numbers::two_at(bytes, 20),
+        third: numbers::two_at(bytes, 22),
+    }
+}
+
+fn fields_of(bytes: &[u8]) -> Fields
+    requires { ⌜ 24 ≤ length (now bytes) ⌝ }
+{
+    let message = messages::channel(message_of(bytes));
+    Fields {
+        rxfn: Rxfn(numbers::two_at(bytes, 3)),
+        ack: bytes[5] != 0,
+        valid: bytes[6] != 0,
+        stamp: numbers::eight_at(bytes, 7),
+        seconds: bytes[15],
+        applies: bytes[16],
+        message,
     }
 }
 
 // The header of 24 bytes.
 pub fn header(bytes: &[u8; 24]) -> Header {
     let kind = reading::kind_of(bytes[2]);
-    let message = messages::channel(message_of(bytes));
-    let fields = Fields {
-        rxfn: Rxfn(number_of(bytes[3], bytes[4])),
-        ack: bytes[5] != 0,
-        valid: bytes[6] != 0,
-        stamp: stamp_of(bytes),
-        seconds: bytes[15],
-        applies: bytes[16],
-        message,
-    };
+    let fields = fields_of(bytes);
     Header {
-        txfn: Txfn(number_of(bytes[0], bytes[1])),
+        txfn: Txfn(numbers::two_at(bytes, 0)),
         kind,
         fields,
     }

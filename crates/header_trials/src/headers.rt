@@ -27,6 +27,22 @@ fn code_number(answer: CodeAnswer) -> u8 {
     }
 }
 
+// The refusal's number, 0 for none.
+fn number_coded(given: &[u8; 24], bytes: &mut [u8]) -> u8 {
+    code_number(header::code_header(fields::header(given), bytes))
+}
+
+// The refusal's number, and the bytes lent after the call.
+fn coded_outcome(number: u8, bytes: &[u8], expected: &[u8]) -> Outcome {
+    if expected.len() < 1 {
+        return Outcome::Malformed;
+    }
+    outcome::both(
+        outcome::of(&[number], &expected[0..1]),
+        outcome::of(bytes, &expected[1..]),
+    )
+}
+
 // The fields of a header and the bytes lent; the refusal's number, and the bytes lent after the call.
 pub fn coded(body: &mut [u8]) -> Outcome {
     if body.len() < 25 {
@@ -37,12 +53,8 @@ pub fn coded(body: &mut [u8]) -> Outcome {
         return Outcome::Malformed;
     }
     let end = 24 + (body.len() - 25) / 2;
-    let header = fields::header(&given);
-    let number = [code_number(header::code_header(header, &mut body[24..end]))];
-    outcome::both(
-        outcome::of(&number, &body[end..end + 1]),
-        outcome::of(&body[24..end], &body[end + 1..]),
-    )
+    let number = number_coded(&given, &mut body[24..end]);
+    coded_outcome(number, &body[24..end], &body[end..])
 }
 
 // What reading answers, in 25 bytes: the refusal's number and no fields, or 0 and every field.

@@ -1,4 +1,6 @@
 // The kind of record that tries receive.
+ghost use Prim.Native.Nat.{_≤_};
+ghost use lib.ListN.{length};
 use crate::buffers;
 use crate::states;
 use frame_trials::Lent;
@@ -18,34 +20,38 @@ fn outcome_of(answer: &[u8; 54], hold: &[u8], list: &[u8], expected: &[u8]) -> O
     )
 }
 
+// What receive answers to the taps and the state of a body.
+fn answer_of(body: &[u8], frame: &[u8], hold: &mut [u8], list: &mut [u8]) -> [u8; 54]
+    requires { ⌜ 15 ≤ length (now body) ⌝ }
+{
+    let receiver = states::receiver(&body[4..]);
+    let answer = receiving::receive(numbers::four_at(body, 0), frame, receiver, hold, list);
+    states::answer(answer, receiver)
+}
+
 // Taps, the state, the lengths of frame, hold and list; the answer, the digests of hold and list; changes to the frame at hand, which then arrives.
 pub fn received(body: &[u8], at_hand: &Lent, hold: &mut [u8], list: &mut [u8]) -> Outcome {
     if body.len() < 91 {
         return Outcome::Malformed;
     }
-    let expected = &body[21..91];
-    let changes = &body[91..];
-    let taps = numbers::of_four(body[0], body[1], body[2], body[3]);
-    let receiver = states::receiver(&body[4..]);
-    let length = numbers::of_two(body[15], body[16]) as usize;
-    let hold_length = numbers::of_two(body[17], body[18]) as usize;
-    let list_length = numbers::of_two(body[19], body[20]) as usize;
+    let length = numbers::two_at(body, 15) as usize;
     if 2100 < length {
         return Outcome::Malformed;
     }
+    let hold_length = numbers::two_at(body, 17) as usize;
     if hold.len() < hold_length {
         return Outcome::Malformed;
     }
+    let list_length = numbers::two_at(body, 19) as usize;
     if list.len() < list_length {
         return Outcome::Malformed;
     }
-    let frame = lent_bytes::changed(at_hand, changes);
-    let answer = receiving::receive(
-        taps,
+    let frame = lent_bytes::changed(at_hand, &body[91..]);
+    let answer = answer_of(
+        body,
         &frame[0..length],
-        receiver,
         &mut hold[0..hold_length],
         &mut list[0..list_length],
     );
-    outcome_of(&states::answer(answer, receiver), hold, list, expected)
+    outcome_of(&answer, hold, list, &body[21..91])
 }

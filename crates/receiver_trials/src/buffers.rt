@@ -1,6 +1,5 @@
 // The kinds of record that set the bytes of hold and list, or compare them.
 use frame_trials::lent_bytes;
-use vectors::digest;
 use vectors::numbers;
 use vectors::outcome;
 use vectors::outcome::Outcome;
@@ -16,20 +15,14 @@ pub fn no_list() -> [u8; 10920] {
     [0u8; 10920]
 }
 
-// Whether the bytes have a digest of 8 bytes.
-fn outcome_of(bytes: &[u8], expected: &[u8]) -> Outcome {
-    let found = numbers::eight_bytes(digest::of(bytes));
-    outcome::of(&found, expected)
-}
-
 // The digests of hold and list, each with the bytes behind it.
 pub fn outcome(hold: &[u8], list: &[u8], expected: &[u8]) -> Outcome {
     if expected.len() < 8 {
         return Outcome::Malformed;
     }
     outcome::both(
-        outcome_of(hold, &expected[0..8]),
-        outcome_of(list, &expected[8..]),
+        outcome::of_digest(hold, &expected[0..8]),
+        outcome::of_digest(list, &expected[8..]),
     )
 }
 
@@ -38,8 +31,8 @@ pub fn begun(body: &[u8], hold: &mut [u8], list: &mut [u8]) -> Outcome {
     if body.len() < 8 {
         return Outcome::Malformed;
     }
-    seeded::fill(numbers::of_four(body[0], body[1], body[2], body[3]), hold);
-    seeded::fill(numbers::of_four(body[4], body[5], body[6], body[7]), list);
+    seeded::fill(numbers::four_at(body, 0), hold);
+    seeded::fill(numbers::four_at(body, 4), list);
     outcome(hold, list, &body[8..])
 }
 
@@ -49,7 +42,7 @@ pub fn list_changed(body: &[u8], list: &mut [u8]) -> Outcome {
         return Outcome::Malformed;
     }
     lent_bytes::change(&body[8..], list);
-    outcome_of(list, &body[0..8])
+    outcome::of_digest(list, &body[0..8])
 }
 
 // The first bytes of the hold or of the list, as many as are given.

@@ -1,6 +1,5 @@
 // The kind of record that tries the reading of the list.
 use list::EntryAnswer;
-use vectors::digest;
 use vectors::numbers;
 use vectors::outcome;
 use vectors::outcome::Outcome;
@@ -33,18 +32,15 @@ pub fn read(body: &[u8], bytes: &[u8]) -> Outcome {
     if body.len() < 36 {
         return Outcome::Malformed;
     }
-    let listed = numbers::of_two(body[0], body[1]) as usize;
+    let listed = numbers::two_at(body, 0) as usize;
     if bytes.len() < listed {
         return Outcome::Malformed;
     }
-    let high = numbers::of_four(body[2], body[3], body[4], body[5]);
-    let low = numbers::of_four(body[6], body[7], body[8], body[9]);
-    let position = numbers::of_eight(high, low) as usize;
     let list = &bytes[0..listed];
+    let position = numbers::eight_at(body, 2) as usize;
     let found = entry_answer(list::entry(list, position));
-    let packet = numbers::eight_bytes(digest::of(list::packet(list, position)));
     outcome::both(
         outcome::of(&found, &body[10..36]),
-        outcome::of(&packet, &body[36..]),
+        outcome::of_digest(list::packet(list, position), &body[36..]),
     )
 }

@@ -9,21 +9,19 @@ use receiver::Receiver;
 use receiving::ReceiveAnswer;
 use vectors::numbers;
 
-fn expected_of(is_expected: u8, high: u8, low: u8) -> Expected {
+fn expected_of(is_expected: u8, number: u16) -> Expected {
     if is_expected == 0 {
         return Expected::None;
     }
-    Expected::Frame(Txfn(fields::number_of(high, low)))
+    Expected::Frame(Txfn(number))
 }
 
 // The state in the first 11 bytes.
 pub fn receiver(bytes: &[u8]) -> Receiver
     requires { ⌜ 11 ≤ length (now bytes) ⌝ }
 {
-    let high = numbers::of_four(bytes[3], bytes[4], bytes[5], bytes[6]);
-    let low = numbers::of_four(bytes[7], bytes[8], bytes[9], bytes[10]);
-    let held = numbers::of_eight(high, low) as usize;
-    let expected = expected_of(bytes[0], bytes[1], bytes[2]);
+    let held = numbers::eight_at(bytes, 3) as usize;
+    let expected = expected_of(bytes[0], numbers::two_at(bytes, 1));
     Receiver { expected, held }
 }
 

@@ -1,6 +1,5 @@
 // The kinds of record that set the queue's bytes, or compare them.
 use frame_trials::lent_bytes;
-use vectors::digest;
 use vectors::numbers;
 use vectors::outcome;
 use vectors::outcome::Outcome;
@@ -11,19 +10,13 @@ pub fn none() -> [u8; 32780] {
     [0u8; 32780]
 }
 
-// Whether a digest of 8 bytes is that of the queue and the bytes behind it.
-pub fn outcome(queue: &[u8], expected: &[u8]) -> Outcome {
-    let found = numbers::eight_bytes(digest::of(queue));
-    outcome::of(&found, expected)
-}
-
 // A seed, and the digest of the bytes from it.
 pub fn begun(body: &[u8], queue: &mut [u8]) -> Outcome {
     if body.len() < 4 {
         return Outcome::Malformed;
     }
-    seeded::fill(numbers::of_four(body[0], body[1], body[2], body[3]), queue);
-    outcome(queue, &body[4..])
+    seeded::fill(numbers::four_at(body, 0), queue);
+    outcome::of_digest(queue, &body[4..])
 }
 
 // The digest of the queue after some changes, and the changes.
@@ -32,7 +25,7 @@ pub fn changed(body: &[u8], queue: &mut [u8]) -> Outcome {
         return Outcome::Malformed;
     }
     lent_bytes::change(&body[8..], queue);
-    outcome(queue, &body[0..8])
+    outcome::of_digest(queue, &body[0..8])
 }
 
 // A seed and bytes: every byte of the queue, and of those behind it. They are the bytes given, and then those from the seed.
@@ -45,10 +38,7 @@ pub fn in_full(body: &[u8], queue: &[u8]) -> Outcome {
     if 32780 < front.len() {
         return Outcome::Malformed;
     }
-    seeded::fill(
-        numbers::of_four(body[0], body[1], body[2], body[3]),
-        &mut expected,
-    );
+    seeded::fill(numbers::four_at(body, 0), &mut expected);
     lent::write_at(&mut expected, 0, front);
     outcome::of(queue, &expected)
 }

@@ -1,5 +1,5 @@
 // States and answers of the sender as the vectors hold them. A state is 10 bytes: the used bytes of the queue 8, the number of the next frame 2.
-ghost use Prim.Native.Nat.{_≤_};
+ghost use Prim.Native.Nat.{_+_, _≤_};
 ghost use lib.ListN.{length};
 use counts::Txfn;
 use header_trials::fields;
@@ -8,16 +8,13 @@ use sender::Sender;
 use sending::NextAnswer;
 use vectors::numbers;
 
-// The state in the first 10 bytes.
-pub fn sender(bytes: &[u8]) -> Sender
-    requires { ⌜ 10 ≤ length (now bytes) ⌝ }
+// The state in the 10 bytes from an index on.
+pub fn sender(bytes: &[u8], at: usize) -> Sender
+    requires { ⌜ at + 10 ≤ length (now bytes) ⌝ }
 {
-    let high = numbers::of_four(bytes[0], bytes[1], bytes[2], bytes[3]);
-    let low = numbers::of_four(bytes[4], bytes[5], bytes[6], bytes[7]);
-    let next = fields::number_of(bytes[8], bytes[9]);
     Sender {
-        used: numbers::of_eight(high, low) as usize,
-        next: Txfn(next),
+        used: numbers::eight_at(bytes, at) as usize,
+        next: Txfn(numbers::two_at(bytes, at + 8)),
     }
 }
 

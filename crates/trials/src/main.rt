@@ -6,10 +6,10 @@ use code_trials::published;
 use frame_trials::Lent;
 use frame_trials::frames;
 use receiver_trials::buffers;
+use records::record;
+use records::record::Head;
+use records::tally::Tally;
 use sender_trials::queues;
-use vectors::record;
-use vectors::record::Head;
-use vectors::tally::Tally;
 use vectors::text;
 
 // Reads the body of a record, and tries it. The 65,536 bytes that are lent have room for every body.

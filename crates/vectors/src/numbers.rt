@@ -1,7 +1,8 @@
 // Numbers as the vectors hold them: bytes, the highest first.
 ghost use mathlib.Core.List.{[], _∷_};
 ghost use mathlib.Core.Path.{_≡_};
-ghost use Prim.Native.Nat.{_+_, _*_, _/_, _%_, _<_};
+ghost use Prim.Native.Nat.{_+_, _*_, _/_, _%_, _<_, _≤_};
+ghost use lib.ListN.{length};
 
 pub fn wide(byte: u8) -> usize
     ensures { λ r. ⌜ r ≡ byte ⌝ }
@@ -57,6 +58,27 @@ pub fn eight_bytes(number: u64) -> [u8; 8] {
 }
 
 // The number of two that have four bytes each.
-pub fn of_eight(high: u32, low: u32) -> u64 {
+fn of_eight(high: u32, low: u32) -> u64 {
     wider(high) * 4294967296 + wider(low)
+}
+
+// The number in the two bytes from an index on.
+pub fn two_at(bytes: &[u8], at: usize) -> u16
+    requires { ⌜ at + 2 ≤ length (now bytes) ⌝ }
+{
+    of_two(bytes[at], bytes[at + 1]) as u16
+}
+
+// The number in the four bytes from an index on.
+pub fn four_at(bytes: &[u8], at: usize) -> u32
+    requires { ⌜ at + 4 ≤ length (now bytes) ⌝ }
+{
+    of_four(bytes[at], bytes[at + 1], bytes[at + 2], bytes[at + 3])
+}
+
+// The number in the eight bytes from an index on.
+pub fn eight_at(bytes: &[u8], at: usize) -> u64
+    requires { ⌜ at + 8 ≤ length (now bytes) ⌝ }
+{
+    of_eight(four_at(bytes, at), four_at(bytes, at + 4))
 }

@@ -1,7 +1,7 @@
 // The input: the number of records in four bytes; then each record as its kind, one byte, the length of its body, two
 // bytes, and the body.
-use crate::numbers;
 use libc::STDIN_FILENO;
+use vectors::numbers;
 
 // What the next record begins with.
 pub enum Head {

@@ -1,8 +1,8 @@
 // What the records came to.
-use crate::count;
-use crate::count::Count;
-use crate::outcome::Outcome;
-use crate::text;
+use vectors::count;
+use vectors::count::Count;
+use vectors::outcome::Outcome;
+use vectors::text;
 
 // A record's kind is a number below this one.
 pub const KINDS: usize = 32;
