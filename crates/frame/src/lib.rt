@@ -5,19 +5,28 @@ pub use coding::area_check;
 pub use coding::preamble;
 use header::Header;
 ghost use mathlib.Core.Path.{_≡_};
+ghost use mathlib.Core.List.{_++_};
 ghost use Prim.Native.Nat.{_≤_};
 ghost use lib.ListN.{length};
 ghost use Rattle.lent.specs.Written.{written};
-ghost use Rattle.frame.specs.Frame.{frameBytes};
+ghost use Rattle.scrambler.specs.Scrambler.{scrambled};
+ghost use Rattle.frame.specs.Frame.{preamble, areaPayload, frameBytes};
 
 // Builds the frame of a header and an area of 1,908 bytes at the front of out.
 pub fn build(taps: u32, header: Header, area: &[u8], out: &mut [u8])
     requires { ⌜ (length (now area) ≡ 1908) × (2081 ≤ length (now out)) ⌝ }
     ensures { λ _. ⌜ now (out .exit) ≡ written (now (out .entry)) 0 (frameBytes taps header (now (area .entry))) ⌝ }
 {
-    let mut body = coding::body(header, area);
-    scrambler::scramble(taps, &mut body);
+    let head = coding::coded_header(header);
+    write_frame(taps, &head, area, out);
+}
+
+// The same of a header that is coded.
+fn write_frame(taps: u32, head: &[u8], area: &[u8], out: &mut [u8])
+    requires { ⌜ (length (now head) ≡ 32) × (length (now area) ≡ 1908) × (2081 ≤ length (now out)) ⌝ }
+    ensures { λ _. ⌜ now (out .exit) ≡ written (now (out .entry)) 0 (preamble ++ scrambled taps (now (head .entry) ++ areaPayload (now (area .entry)))) ⌝ }
+{
     let preamble = coding::preamble();
-    lent::write_at(out, 0, &preamble);
-    lent::write_at(out, 9, &body);
+    let body = coding::scrambled_body(taps, head, area);
+    coding::write_both(out, &preamble, &body);
 }

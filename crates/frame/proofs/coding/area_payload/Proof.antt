@@ -2,11 +2,11 @@ use mathlib.Core.Path.{_≡_, ap, _∙_}
 use mathlib.Core.List.{_++_}
 use lib.ListN.{length, take}
 use Rattle.basics.specs.Lists.{zeros}
-use Rattle.basics.proofs.Lists.{zeros-length}
 use Rattle.lent.specs.Written.{written}
+use Rattle.lent.proofs.Written.{written-front}
 use Rattle.interleaving.specs.Payload.{codedPayload}
-use Rattle.frame.specs.Frame.{areaPayload}
-use Rattle.frame.proofs.Laws.{check-length, payload-data}
+use Rattle.frame.specs.Frame.{areaPayload, areaCheck}
+use Rattle.frame.proofs.Laws.{data-length}
 use borrow.Author.Needs.{needs}
 use Rattle.frame.proofs.coding.area_payload.Statement.{statement}
 use Rattle.frame.proofs.coding.area_payload.Tie as tie
@@ -14,20 +14,14 @@ use Rattle.frame.proofs.coding.area_payload.Tie as tie
 area-check-requires : tie.Need-area-check-requires
 area-check-requires c κs = search needs
 
-slice-aggregate-write-at : tie.Need-slice-aggregate-write-at
-slice-aggregate-write-at c = search needs
+slice-aggregate-write-both : tie.Need-slice-aggregate-write-both
+slice-aggregate-write-both c = search needs
 
-write-at-requires : tie.Need-write-at-requires
-write-at-requires c κs = search needs
+slice-aggregate-write-both-2 : tie.Need-slice-aggregate-write-both-2
+slice-aggregate-write-both-2 c = search needs
 
-slice-aggregate-write-at-2 : tie.Need-slice-aggregate-write-at-2
-slice-aggregate-write-at-2 c = search needs
-
-slice-aggregate-write-at-3 : tie.Need-slice-aggregate-write-at-3
-slice-aggregate-write-at-3 c = search needs
-
-write-at-requires-2 : tie.Need-write-at-requires-2
-write-at-requires-2 c κs = search needs
+write-both-requires : tie.Need-write-both-requires
+write-both-requires c κs = search needs
 
 slice-aggregate-write-parity : tie.Need-slice-aggregate-write-parity
 slice-aggregate-write-parity c = search needs
@@ -38,29 +32,22 @@ write-parity-requires c κs = search needs
 returns : tie.Need-returns
 unfolding areaPayload
 returns c =
-    let at-args = c .before .before .before .before .before .before .before .before .before .before .before .before .args in
-    let at-area-check = c .before .before .before .before .before .before .before .before .before .before .area-check in
-    let at-write-at2 = c .before .before .before .before .write-at2 in
-    let at-write-at = c .before .before .before .before .before .before .before .before .write-at in
     let at-write-parity = c .before .write-parity in
-    let at-pre = c .before .before .before .before .before .before .before .before .before .before .before .before .pre in
-    let area = (at-args .area .now) in
-    let check = (at-area-check .result) in
-    let four : length check ≡ 4 = ap length (at-area-check .ensures) ∙ check-length area in
-    let filled = (at-write-at2 .ensures) ∙ ap (λ l. written l 1908 check) (at-write-at .ensures) in
-    (at-write-parity .ensures) ∙ ap codedPayload (ap (take 1912) filled ∙ payload-data (zeros 2040) area check at-pre four (zeros-length 2040)
-    ∙ ap (λ l. area ++ l) (at-area-check .ensures))
+    let at-write-both = c .before .before .before .before .write-both in
+    let at-area-check = c .before .before .before .before .before .before .before .area-check in
+    let area = c .before .before .before .before .before .before .before .before .before .args .area .now in
+    let at-pre = c .before .before .before .before .before .before .before .before .before .pre in
+    at-write-parity .ensures ∙ ap codedPayload (ap (take 1912) (at-write-both .ensures ∙ ap (λ l. written (zeros 2040) 0 (area ++ l)) (at-area-check .ensures))
+    ∙ written-front (zeros 2040) (area ++ areaCheck area) 1912 (data-length area at-pre))
 
 pub area-payload-spec : {M : Type 1} → statement M
 area-payload-spec =
     tie.close
     (tie.spec
     area-check-requires
-    slice-aggregate-write-at
-    write-at-requires
-    slice-aggregate-write-at-2
-    slice-aggregate-write-at-3
-    write-at-requires-2
+    slice-aggregate-write-both
+    slice-aggregate-write-both-2
+    write-both-requires
     slice-aggregate-write-parity
     write-parity-requires
     returns)
