@@ -1,3 +1,1 @@
 pub mod Packets
-pub mod Fitting
-pub mod Exact

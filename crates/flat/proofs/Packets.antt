@@ -11,7 +11,7 @@ use Rattle.list.specs.Reading.{lengthAt, entryAnswer, packetAt, placeAt}
 use Rattle.list.proofs.Lengths.{no-mark}
 use Rattle.list.proofs.Calls.{at-end, at-refusal, at-packet}
 use Rattle.flat.specs.Answers.{flatPacket}
-use Rattle.flat.specs.declared.answers.FlatPacket.{FlatPacket}
+use Rattle.flat.specs.declared.FlatPacket.{FlatPacket}
 
 pub record Placed (list : List ℕ) (position : ℕ) (place : FlatPacket) : Type 0 where
   pub bytes : take (place .length) (drop (place .start) list) ≡ packetAt list position

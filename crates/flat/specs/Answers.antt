@@ -11,16 +11,16 @@ use Rattle.sender.specs.declared.PutAnswer.{PutAnswer}
 use Rattle.sender.specs.declared.PutAnswer.the-variants as put
 use Rattle.sending.specs.declared.NextAnswer.{NextAnswer}
 use Rattle.sending.specs.declared.NextAnswer.the-variants as next
-use Rattle.flat.specs.Headers.{flatHeader, noHeader}
-use Rattle.flat.specs.States.{flatSender, flatReceiver}
-use Rattle.flat.specs.declared.states.FlatReceiver.{FlatReceiver}
-use Rattle.flat.specs.declared.states.FlatSender.{FlatSender}
-use Rattle.flat.specs.declared.answers.FlatPut.{FlatPut}
-use Rattle.flat.specs.declared.answers.FlatNext.{FlatNext}
-use Rattle.flat.specs.declared.answers.FlatReceive.{FlatReceive}
-use Rattle.flat.specs.declared.answers.FlatRead.{FlatRead}
-use Rattle.flat.specs.declared.answers.FlatEntry.{FlatEntry}
-use Rattle.flat.specs.declared.answers.FlatPacket.{FlatPacket}
+use Rattle.flat_headers.specs.Headers.{flatHeader, noHeader}
+use Rattle.flat_states.specs.States.{flatSender, flatReceiver}
+use Rattle.flat_states.specs.declared.FlatReceiver.{FlatReceiver}
+use Rattle.flat_states.specs.declared.FlatSender.{FlatSender}
+use Rattle.flat.specs.declared.FlatPut.{FlatPut}
+use Rattle.flat.specs.declared.FlatNext.{FlatNext}
+use Rattle.flat.specs.declared.FlatReceive.{FlatReceive}
+use Rattle.flat.specs.declared.FlatRead.{FlatRead}
+use Rattle.flat.specs.declared.FlatEntry.{FlatEntry}
+use Rattle.flat.specs.declared.FlatPacket.{FlatPacket}
 
 abbrev pub flatPut : FlatSender → PutAnswer → FlatPut
 flatPut given (put.Taken sender) = record { sender = flatSender sender; refusal = 0 }

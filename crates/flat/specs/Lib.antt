@@ -1,4 +1,1 @@
 pub mod Answers
-pub mod Headers
-pub mod Messages
-pub mod States

@@ -1,6 +1,196 @@
-// The library's values as C has them: numbers in structs, both ways. What C can get wrong becomes a value that the library refuses with the table's number,
-// so that the order of the refusals is the library's own.
-pub mod answers;
-pub mod headers;
-pub mod messages;
-pub mod states;
+// The library's answers as C has them: the refusal's number, 0 for none, beside the values. A refusal's answer has the state as it was given, and zeros elsewhere.
+use flat_headers::headers;
+use flat_headers::headers::FlatHeader;
+use flat_states::FlatReceiver;
+use flat_states::FlatSender;
+use header::CodeAnswer;
+use list::EntryAnswer;
+use reading::ReadAnswer;
+use receiving::ReceiveAnswer;
+use sender::PutAnswer;
+use sending::NextAnswer;
+ghost use mathlib.Core.Path.{_≡_};
+ghost use Rattle.header.specs.Calls.{codeNumber};
+ghost use Rattle.flat.specs.Answers.{flatPut, flatNext, flatReceive, flatRead, flatEntry, flatPacket};
+
+#[repr(C)]
+pub struct FlatPut {
+    pub sender: FlatSender,
+    pub refusal: u8,
+}
+
+#[repr(C)]
+pub struct FlatNext {
+    pub sender: FlatSender,
+    pub kind: u8,
+    pub refusal: u8,
+}
+
+#[repr(C)]
+pub struct FlatReceive {
+    pub header: FlatHeader,
+    pub receiver: FlatReceiver,
+    pub packets: usize,
+    pub listed: usize,
+    pub missed: u16,
+    pub refusal: u8,
+}
+
+#[repr(C)]
+pub struct FlatRead {
+    pub header: FlatHeader,
+    pub refusal: u8,
+}
+
+#[repr(C)]
+pub struct FlatEntry {
+    pub start: usize,
+    pub length: usize,
+    pub next: usize,
+    pub found: u8,
+    pub refusal: u8,
+}
+
+// Where a packet stands in the caller's list.
+#[repr(C)]
+pub struct FlatPacket {
+    pub start: usize,
+    pub length: usize,
+}
+
+pub fn flat_put(given: FlatSender, answer: PutAnswer) -> FlatPut
+    ensures { λ r. ⌜ r ≡ flatPut given answer ⌝ }
+{
+    match answer {
+        PutAnswer::Taken(after) => FlatPut {
+            sender: flat_states::flat_sender(after),
+            refusal: 0,
+        },
+        PutAnswer::Refused(number) => FlatPut {
+            sender: given,
+            refusal: number,
+        },
+    }
+}
+
+pub fn flat_next(given: FlatSender, answer: NextAnswer) -> FlatNext
+    ensures { λ r. ⌜ r ≡ flatNext given answer ⌝ }
+{
+    match answer {
+        NextAnswer::Sent { sender, kind } => FlatNext {
+            sender: flat_states::flat_sender(sender),
+            kind: header::coding::kind_number(kind),
+            refusal: 0,
+        },
+        NextAnswer::Refused(number) => FlatNext {
+            sender: given,
+            kind: 0,
+            refusal: number,
+        },
+    }
+}
+
+pub fn flat_receive(given: FlatReceiver, answer: ReceiveAnswer) -> FlatReceive
+    ensures { λ r. ⌜ r ≡ flatReceive given answer ⌝ }
+{
+    match answer {
+        ReceiveAnswer::Received {
+            header,
+            missed,
+            packets,
+            listed,
+            receiver,
+        } => FlatReceive {
+            header: headers::flat_header(header),
+            receiver: flat_states::flat_receiver(receiver),
+            packets,
+            listed,
+            missed,
+            refusal: 0,
+        },
+        ReceiveAnswer::Refused(number) => FlatReceive {
+            header: headers::no_header(),
+            receiver: given,
+            packets: 0,
+            listed: 0,
+            missed: 0,
+            refusal: number,
+        },
+    }
+}
+
+pub fn code_number(answer: CodeAnswer) -> u8
+    ensures { λ r. ⌜ r ≡ codeNumber answer ⌝ }
+{
+    match answer {
+        CodeAnswer::Coded => 0,
+        CodeAnswer::Refused(number) => number,
+    }
+}
+
+pub fn flat_read(answer: ReadAnswer) -> FlatRead
+    ensures { λ r. ⌜ r ≡ flatRead answer ⌝ }
+{
+    match answer {
+        ReadAnswer::Read(header) => FlatRead {
+            header: headers::flat_header(header),
+            refusal: 0,
+        },
+        ReadAnswer::Refused(number) => FlatRead {
+            header: headers::no_header(),
+            refusal: number,
+        },
+    }
+}
+
+pub fn flat_entry(answer: EntryAnswer) -> FlatEntry
+    ensures { λ r. ⌜ r ≡ flatEntry answer ⌝ }
+{
+    match answer {
+        EntryAnswer::Packet {
+            start,
+            length,
+            next,
+        } => FlatEntry {
+            start,
+            length,
+            next,
+            found: 1,
+            refusal: 0,
+        },
+        EntryAnswer::End => FlatEntry {
+            start: 0,
+            length: 0,
+            next: 0,
+            found: 0,
+            refusal: 0,
+        },
+        EntryAnswer::Refused(number) => FlatEntry {
+            start: 0,
+            length: 0,
+            next: 0,
+            found: 0,
+            refusal: number,
+        },
+    }
+}
+
+pub fn flat_packet(answer: EntryAnswer) -> FlatPacket
+    ensures { λ r. ⌜ r ≡ flatPacket answer ⌝ }
+{
+    match answer {
+        EntryAnswer::Packet {
+            start,
+            length,
+            next: _,
+        } => FlatPacket { start, length },
+        EntryAnswer::End => FlatPacket {
+            start: 0,
+            length: 0,
+        },
+        EntryAnswer::Refused(_) => FlatPacket {
+            start: 0,
+            length: 0,
+        },
+    }
+}

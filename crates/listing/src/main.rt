@@ -3,6 +3,7 @@
 use libc::STDIN_FILENO;
 use libc::STDOUT_FILENO;
 use receiver::Receiver;
+use receiving::ReceiveAnswer;
 
 // Taps 0 and 3.
 const TAPS: u32 = 0b1001;
@@ -11,6 +12,22 @@ const TAPS: u32 = 0b1001;
 struct Turn {
     receiver: Receiver,
     goes_on: bool,
+}
+
+// Prints the line of a frame. Answers whether it is printed.
+fn print_line(place: u64, answer: ReceiveAnswer) -> bool {
+    let mut line = [0u8; 96];
+    let end = listing_lines::write_line(&mut line, place, answer);
+    io::write_all(STDOUT_FILENO, &line[..end])
+}
+
+// Lists a frame by the receiver's answer to it. None follows one that is cut short, nor a line that could not be printed.
+fn listed(place: u64, receiver: Receiver, answer: ReceiveAnswer, is_whole: bool) -> Turn {
+    let after = listing_lines::receiver_after(receiver, answer);
+    Turn {
+        receiver: after,
+        goes_on: print_line(place, answer) && is_whole,
+    }
 }
 
 // Reads the next frame and prints its line. A piece that is shorter than a frame is the last one.
@@ -29,14 +46,7 @@ fn next_listed(
         };
     }
     let answer = receiving::receive(TAPS, &frame[..length], receiver, hold, list);
-    let mut line = [0u8; 96];
-    let end = listing_lines::write_line(&mut line, place, answer);
-    let is_printed = io::write_all(STDOUT_FILENO, &line[..end]);
-    let after = listing_lines::receiver_after(receiver, answer);
-    Turn {
-        receiver: after,
-        goes_on: is_printed && length == frame.len(),
-    }
+    listed(place, receiver, answer, length == frame.len())
 }
 
 // A proved loop has to end, and nothing says that the input does: this one ends where the place has no number any more, after 2^64 - 1 frames.

@@ -1,6 +1,6 @@
-// What the demonstration tells: the lines of its table, a ledger of the blocks, and totals.
+// What the demonstration tells: the lines of its table, ledgers of blocks, and totals.
 pub mod ledger;
-pub mod line;
+pub mod table;
 pub mod totals;
 
 // The first bytes of a buffer, or all where there are fewer.

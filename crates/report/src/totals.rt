@@ -1,5 +1,6 @@
 // What the session came to, in numbers.
 use vectors::count::more;
+use vectors::text;
 
 pub struct Totals {
     pub received: u64,
@@ -7,8 +8,6 @@ pub struct Totals {
     pub lost: u64,
     // The sum of the missed counts.
     pub missed: u64,
-    // Blocks that came out as they went in.
-    pub unaltered: u64,
 }
 
 impl Totals {
@@ -18,7 +17,6 @@ impl Totals {
             refused: 0,
             lost: 0,
             missed: 0,
-            unaltered: 0,
         }
     }
 
@@ -40,12 +38,31 @@ impl Totals {
         next.lost = more(self.lost);
         next
     }
+}
 
-    pub fn with_out(self, is_unaltered: bool) -> Totals {
-        let mut next = self;
-        if is_unaltered {
-            next.unaltered = more(self.unaltered);
-        }
-        next
-    }
+// A number and what it counts.
+fn say(number: u64, what: &[u8]) {
+    text::number(number);
+    text::say(what);
+}
+
+pub fn print_frames(totals: Totals) {
+    text::say(b"\n\nframes: ");
+    say(totals.received, b" received, ");
+    say(totals.refused, b" refused, ");
+    say(totals.lost, b" lost; the missed counts add up to ");
+    say(totals.missed, b"\n");
+}
+
+pub fn print_blocks(put: u16, came_out: u64, unaltered: u64) {
+    text::say(b"blocks: ");
+    say(put as u64, b" put, ");
+    say(came_out, b" came out, ");
+    say(unaltered, b" of these unaltered\n");
+}
+
+pub fn print_promised(promised: u64, put: u16) {
+    text::say(b"blocks that came out exactly if every frame with a part of them was received: ");
+    say(promised, b" of ");
+    say(put as u64, b"\n");
 }

@@ -1,4 +1,3 @@
-// What the demonstration plays: a beam that is shaken, blocks of samples that travel through it as packets, and the two who read them.
+// What the demonstration plays: a beam that is shaken, and blocks of samples that travel through it as packets.
 pub mod beam;
 pub mod blocks;
-pub mod views;

@@ -8,15 +8,15 @@ use Rattle.receiving.proofs.Receiving.{receive-one}
 use Rattle.sender.proofs.Putting.{put-one}
 use Rattle.sending.proofs.Sending.{next-frame-one}
 use Rattle.flat.specs.Answers.{flatPut, flatNext, flatReceive}
-use Rattle.flat.specs.Headers.{fieldsOf, headerOf}
-use Rattle.flat.specs.States.{senderOf, receiverOf}
-use Rattle.flat.specs.declared.answers.FlatPut.{FlatPut}
-use Rattle.flat.specs.declared.answers.FlatNext.{FlatNext}
-use Rattle.flat.specs.declared.answers.FlatReceive.{FlatReceive}
-use Rattle.flat.specs.declared.headers.FlatFields.{FlatFields}
-use Rattle.flat.specs.declared.headers.FlatHeader.{FlatHeader}
-use Rattle.flat.specs.declared.states.FlatReceiver.{FlatReceiver}
-use Rattle.flat.specs.declared.states.FlatSender.{FlatSender}
+use Rattle.flat_headers.specs.Headers.{fieldsOf, headerOf}
+use Rattle.flat_states.specs.States.{senderOf, receiverOf}
+use Rattle.flat.specs.declared.FlatPut.{FlatPut}
+use Rattle.flat.specs.declared.FlatNext.{FlatNext}
+use Rattle.flat.specs.declared.FlatReceive.{FlatReceive}
+use Rattle.flat_headers.specs.declared.headers.FlatFields.{FlatFields}
+use Rattle.flat_headers.specs.declared.headers.FlatHeader.{FlatHeader}
+use Rattle.flat_states.specs.declared.FlatReceiver.{FlatReceiver}
+use Rattle.flat_states.specs.declared.FlatSender.{FlatSender}
 use Rattle.taqwelim.specs.Calls.{PutCall, NextCall, ReceiveCall, CodeCall}
 
 -- two answers of the library that are equal give C the same numbers

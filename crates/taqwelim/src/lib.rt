@@ -1,17 +1,15 @@
 // The calls for C: each is one call of the library, on what C's numbers stand for, and its answer as numbers. include/taqwelim.h declares them.
-use flat::answers;
-use flat::answers::FlatEntry;
-use flat::answers::FlatNext;
-use flat::answers::FlatPacket;
-use flat::answers::FlatPut;
-use flat::answers::FlatRead;
-use flat::answers::FlatReceive;
-use flat::headers;
-use flat::headers::FlatFields;
-use flat::headers::FlatHeader;
-use flat::states;
-use flat::states::FlatReceiver;
-use flat::states::FlatSender;
+use flat::FlatEntry;
+use flat::FlatNext;
+use flat::FlatPacket;
+use flat::FlatPut;
+use flat::FlatRead;
+use flat::FlatReceive;
+use flat_headers::headers;
+use flat_headers::headers::FlatFields;
+use flat_headers::headers::FlatHeader;
+use flat_states::FlatReceiver;
+use flat_states::FlatSender;
 use receiver::Receiver;
 use sender::Sender;
 ghost use mathlib.Core.Path.{_≡_};
@@ -20,7 +18,7 @@ ghost use Rattle.level.specs.Level.{levelOf};
 ghost use Rattle.list.specs.Reading.{entryAnswer};
 ghost use Rattle.receiver.specs.Applying.{freshReceiver};
 ghost use Rattle.sender.specs.Put.{freshSender};
-ghost use Rattle.flat.specs.States.{flatSender, flatReceiver};
+ghost use Rattle.flat_states.specs.States.{flatSender, flatReceiver};
 ghost use Rattle.flat.specs.Answers.{flatRead, flatEntry, flatPacket};
 ghost use Rattle.taqwelim.specs.Calls.{PutCall, NextCall, ReceiveCall, CodeCall};
 
@@ -28,7 +26,7 @@ ghost use Rattle.taqwelim.specs.Calls.{PutCall, NextCall, ReceiveCall, C
 pub extern "C" fn taqwelim_fresh_sender() -> FlatSender
     ensures { λ r. ⌜ r ≡ flatSender freshSender ⌝ }
 {
-    states::flat_sender(Sender::fresh())
+    flat_states::flat_sender(Sender::fresh())
 }
 
 // Refusals: 2, 3, 4, 5.
@@ -36,8 +34,8 @@ pub extern "C" fn taqwelim_fresh_sender() -> FlatSender
 pub extern "C" fn taqwelim_put(queue: &mut [u8], sender: FlatSender, packet: &[u8]) -> FlatPut
     ensures { λ r. ⌜ PutCall (now (queue .entry)) sender (now (packet .entry)) r (now (queue .exit)) ⌝ }
 {
-    let answer = sender::put(queue, states::sender_of(sender), packet);
-    answers::flat_put(sender, answer)
+    let answer = sender::put(queue, flat_states::sender_of(sender), packet);
+    flat::flat_put(sender, answer)
 }
 
 // Refusals: 1, 2, 3, 6.
@@ -54,18 +52,18 @@ pub extern "C" fn taqwelim_next_frame(
     let answer = sending::next_frame(
         taps,
         headers::fields_of(fields),
-        states::sender_of(sender),
+        flat_states::sender_of(sender),
         queue,
         out,
     );
-    answers::flat_next(sender, answer)
+    flat::flat_next(sender, answer)
 }
 
 #[no_mangle]
 pub extern "C" fn taqwelim_fresh_receiver() -> FlatReceiver
     ensures { λ r. ⌜ r ≡ flatReceiver freshReceiver ⌝ }
 {
-    states::flat_receiver(Receiver::fresh())
+    flat_states::flat_receiver(Receiver::fresh())
 }
 
 // Refusals: 1, 2, 3, 7 to 15.
@@ -79,8 +77,8 @@ pub extern "C" fn taqwelim_receive(
 ) -> FlatReceive
     ensures { λ r. ⌜ ReceiveCall taps (now (frame .entry)) receiver (now (hold .entry)) (now (list .entry)) r (now (hold .exit)) (now (list .exit)) ⌝ }
 {
-    let answer = receiving::receive(taps, frame, states::receiver_of(receiver), hold, list);
-    answers::flat_receive(receiver, answer)
+    let answer = receiving::receive(taps, frame, flat_states::receiver_of(receiver), hold, list);
+    flat::flat_receive(receiver, answer)
 }
 
 // Refusal: 16.
@@ -88,7 +86,7 @@ pub extern "C" fn taqwelim_receive(
 pub extern "C" fn taqwelim_entry(list: &[u8], position: usize) -> FlatEntry
     ensures { λ r. ⌜ r ≡ flatEntry (entryAnswer (now (list .entry)) position) ⌝ }
 {
-    answers::flat_entry(list::entry(list, position))
+    flat::flat_entry(list::entry(list, position))
 }
 
 // The place of the packet alone; `packet-placed` in flat/proofs/Packets.antt: these are the bytes that the library's `packet` hands back.
@@ -96,7 +94,7 @@ pub extern "C" fn taqwelim_entry(list: &[u8], position: usize) -> FlatEntry
 pub extern "C" fn taqwelim_packet(list: &[u8], position: usize) -> FlatPacket
     ensures { λ r. ⌜ r ≡ flatPacket (entryAnswer (now (list .entry)) position) ⌝ }
 {
-    answers::flat_packet(list::entry(list, position))
+    flat::flat_packet(list::entry(list, position))
 }
 
 // Refusals: 2, 6.
@@ -105,7 +103,7 @@ pub extern "C" fn taqwelim_code_header(header: FlatHeader, out: &mut [u8]) -> u8
     ensures { λ r. ⌜ CodeCall header (now (out .entry)) r (now (out .exit)) ⌝ }
 {
     let answer = header::code_header(headers::header_of(header), out);
-    answers::code_number(answer)
+    flat::code_number(answer)
 }
 
 // Refusals: 2, 9, 10, 11.
@@ -113,7 +111,7 @@ pub extern "C" fn taqwelim_code_header(header: FlatHeader, out: &mut [u8]) -> u8
 pub extern "C" fn taqwelim_read_header(bytes: &[u8]) -> FlatRead
     ensures { λ r. ⌜ r ≡ flatRead (readHeader (now (bytes .entry))) ⌝ }
 {
-    answers::flat_read(reading::read_header(bytes))
+    flat::flat_read(reading::read_header(bytes))
 }
 
 #[no_mangle]
