@@ -9,9 +9,9 @@ fn answer(number: u8, is_packet: u8, start: usize, length: usize, next: usize) -
     let mut answer = [0u8; 26];
     answer[0] = number;
     answer[1] = is_packet;
-    lent::write_at(&mut answer, 2, &numbers::eight_bytes(start as u64));
-    lent::write_at(&mut answer, 10, &numbers::eight_bytes(length as u64));
-    lent::write_at(&mut answer, 18, &numbers::eight_bytes(next as u64));
+    numbers::write_eight(&mut answer, 2, start as u64);
+    numbers::write_eight(&mut answer, 10, length as u64);
+    numbers::write_eight(&mut answer, 18, next as u64);
     answer
 }
 
