@@ -1,6 +1,6 @@
 // The kinds of record that try the codes, 1 to 9, and the function that tries each.
 use crate::codes;
-use vectors::outcome::Outcome;
+use outcome::Outcome;
 
 pub fn outcome(kind: u8, body: &mut [u8]) -> Outcome {
     match kind {

@@ -6,9 +6,8 @@ use crate::Lent;
 use crate::lent_bytes;
 use frame::OpenAnswer;
 use header_trials::fields;
+use outcome::Outcome;
 use vectors::numbers;
-use vectors::outcome;
-use vectors::outcome::Outcome;
 
 // No frame yet.
 pub fn none_at_hand() -> Lent {

@@ -2,9 +2,8 @@
 use crate::fields;
 use header::CodeAnswer;
 use header::ReadAnswer;
+use outcome::Outcome;
 use vectors::numbers;
-use vectors::outcome;
-use vectors::outcome::Outcome;
 
 // How far the level of a code lies below 0.
 fn below_zero(code: u8) -> u32 {

@@ -1,6 +1,6 @@
 // The kinds of record that try the level and the bare header, 10 to 12, and the function that tries each.
 use crate::headers;
-use vectors::outcome::Outcome;
+use outcome::Outcome;
 
 pub fn outcome(kind: u8, body: &mut [u8]) -> Outcome {
     match kind {

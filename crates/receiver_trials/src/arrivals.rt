@@ -5,9 +5,8 @@ use crate::buffers;
 use crate::states;
 use frame_trials::Lent;
 use frame_trials::lent_bytes;
+use outcome::Outcome;
 use vectors::numbers;
-use vectors::outcome;
-use vectors::outcome::Outcome;
 
 // The answer, the digests of hold and list.
 fn outcome_of(answer: &[u8; 54], hold: &[u8], list: &[u8], expected: &[u8]) -> Outcome {

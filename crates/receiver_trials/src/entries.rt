@@ -1,8 +1,8 @@
 // The kind of record that tries the reading of the list.
 use list::EntryAnswer;
+use outcome::Outcome;
+use vectors::digest;
 use vectors::numbers;
-use vectors::outcome;
-use vectors::outcome::Outcome;
 
 // What stands at a position: the refusal's number, 0 for none; 1 for a packet; its place, its length and the position after it, 8 bytes each.
 fn answer(number: u8, is_packet: u8, start: usize, length: usize, next: usize) -> [u8; 26] {
@@ -41,6 +41,6 @@ pub fn read(body: &[u8], bytes: &[u8]) -> Outcome {
     let found = entry_answer(list::entry(list, position));
     outcome::both(
         outcome::of(&found, &body[10..36]),
-        outcome::of_digest(list::packet(list, position), &body[36..]),
+        digest::outcome(list::packet(list, position), &body[36..]),
     )
 }

@@ -3,7 +3,7 @@ use crate::arrivals;
 use crate::buffers;
 use crate::entries;
 use frame_trials::Lent;
-use vectors::outcome::Outcome;
+use outcome::Outcome;
 
 pub fn outcome(kind: u8, body: &[u8], at_hand: &Lent, hold: &mut [u8], list: &mut [u8]) -> Outcome {
     match kind {

@@ -1,7 +1,7 @@
 // What the records came to.
+use outcome::Outcome;
 use vectors::count;
 use vectors::count::Count;
-use vectors::outcome::Outcome;
 use vectors::text;
 
 // A record's kind is a number below this one.

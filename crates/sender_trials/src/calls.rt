@@ -5,9 +5,9 @@ use crate::states;
 use frame_trials::Lent;
 use frame_trials::lent_bytes;
 use header_trials::fields;
+use outcome::Outcome;
+use vectors::digest;
 use vectors::numbers;
-use vectors::outcome;
-use vectors::outcome::Outcome;
 use vectors::seeded;
 
 // The answer, the digest of the queue.
@@ -17,7 +17,7 @@ fn put_outcome(answer: &[u8; 12], queue: &[u8], expected: &[u8]) -> Outcome {
     }
     outcome::both(
         outcome::of(answer, &expected[0..12]),
-        outcome::of_digest(queue, &expected[12..]),
+        digest::outcome(queue, &expected[12..]),
     )
 }
 
@@ -56,7 +56,7 @@ fn output_outcome(output: &[u8], expected: &[u8], frame: &[u8]) -> Outcome {
         return Outcome::Malformed;
     }
     outcome::both(
-        outcome::of_digest(output, expected),
+        digest::outcome(output, expected),
         outcome::of(&output[0..length], frame),
     )
 }

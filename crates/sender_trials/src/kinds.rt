@@ -2,7 +2,7 @@
 use crate::calls;
 use crate::queues;
 use frame_trials::Lent;
-use vectors::outcome::Outcome;
+use outcome::Outcome;
 
 pub fn outcome(kind: u8, body: &[u8], queue: &mut [u8], at_hand: &mut Lent) -> Outcome {
     match kind {

@@ -1,7 +1,7 @@
 // The kinds of record: which crate tries one, and its line in the table. Numbers are never used for another kind.
 use frame_trials::Lent;
+use outcome::Outcome;
 use records::tally::Tally;
-use vectors::outcome::Outcome;
 use vectors::text;
 
 // The frame at hand is the last that a record brought. It, the sender's queue and the receiver's hold and list stay from record to record.
