@@ -1,8 +1,7 @@
 // The kinds of record that try the codes. A body is the input, and behind it what the second coder expects; a test
 // comes out as a byte, 1 for true and 0 for false. A result that differs in length differs.
+use outcome::Outcome;
 use vectors::numbers;
-use vectors::outcome;
-use vectors::outcome::Outcome;
 
 // A message, and its CRC-16.
 pub fn crc_16(body: &[u8]) -> Outcome {

@@ -1,7 +1,6 @@
-// The kinds of record that try the codes, 1 to 9: which function tries one, and its line in the table.
+// The kinds of record that try the codes, 1 to 9, and the function that tries each.
 use crate::codes;
-use records::tally::Tally;
-use vectors::outcome::Outcome;
+use outcome::Outcome;
 
 pub fn outcome(kind: u8, body: &mut [u8]) -> Outcome {
     match kind {
@@ -16,16 +15,4 @@ pub fn outcome(kind: u8, body: &mut [u8]) -> Outcome {
         9 => codes::scrambled(body),
         _ => Outcome::Malformed,
     }
-}
-
-pub fn print(tally: Tally) {
-    tally.print_kind(1, b"CRC-16");
-    tally.print_kind(2, b"CRC-32");
-    tally.print_kind(3, b"power of 2");
-    tally.print_kind(4, b"parity");
-    tally.print_kind(5, b"codeword judged");
-    tally.print_kind(6, b"payload coded");
-    tally.print_kind(7, b"payload judged");
-    tally.print_kind(8, b"taps judged");
-    tally.print_kind(9, b"bytes scrambled");
 }

@@ -6,9 +6,8 @@ use crate::Lent;
 use crate::lent_bytes;
 use header_trials::fields;
 use opening::OpenAnswer;
+use outcome::Outcome;
 use vectors::numbers;
-use vectors::outcome;
-use vectors::outcome::Outcome;
 
 // No frame yet.
 pub fn none_at_hand() -> Lent {
@@ -61,6 +60,19 @@ fn answer_of(body: &[u8], frame: &[u8], area: &mut [u8]) -> [u8; 25]
     open_bytes(opening::open(numbers::four_at(body, 0), frame, area))
 }
 
+// Opens a frame into room for its area: the first bytes of the answer, as many as are given, and all that was lent.
+fn opened_outcome(body: &[u8], frame: &[u8], room: usize, answer: &[u8], area: &Lent) -> Outcome
+    requires { ⌜ (4 ≤ length (now body)) × (room ≤ 2100) × (length (now answer) ≤ 25) ⌝ }
+{
+    let mut found = lent_bytes::kept();
+    let bytes = answer_of(body, frame, &mut found[0..room]);
+    let compared = answer.len();
+    outcome::both(
+        outcome::of(&bytes[0..compared], answer),
+        lent_bytes::outcome(&found, area),
+    )
+}
+
 // Taps, the room lent for the area, what opening the frame at hand answers, the area that it then writes.
 pub fn opened(body: &[u8], at_hand: &Lent) -> Outcome {
     if body.len() < 32 {
@@ -71,14 +83,9 @@ pub fn opened(body: &[u8], at_hand: &Lent) -> Outcome {
         return Outcome::Malformed;
     }
     let frame = lent_bytes::kept_behind(at_hand);
-    let mut found = lent_bytes::kept();
-    let answer = answer_of(body, &frame[0..2081], &mut found[0..room]);
     let area = lent_bytes::area(&body[31..]);
     let expected = lent_bytes::kept_behind(&area);
-    outcome::both(
-        outcome::of(&answer, &body[6..31]),
-        lent_bytes::outcome(&found, &expected),
-    )
+    opened_outcome(body, &frame[0..2081], room, &body[6..31], &expected)
 }
 
 // Taps, the frame's length, the room lent for the area, the refusal's number, changes to the frame at hand.
@@ -95,11 +102,6 @@ pub fn refused(body: &[u8], at_hand: &Lent) -> Outcome {
         return Outcome::Malformed;
     }
     let frame = lent_bytes::changed(at_hand, &body[9..]);
-    let mut found = lent_bytes::kept();
-    let answer = answer_of(body, &frame[0..length], &mut found[0..room]);
     let expected = lent_bytes::kept();
-    outcome::both(
-        outcome::of(&answer[0..1], &body[8..9]),
-        lent_bytes::outcome(&found, &expected),
-    )
+    opened_outcome(body, &frame[0..length], room, &body[8..9], &expected)
 }

@@ -1,8 +1,7 @@
-// The kinds of record that try whole frames, 13 to 15: which function tries one, and its line in the table.
+// The kinds of record that try whole frames, 13 to 15, and the function that tries each.
 use crate::Lent;
 use crate::frames;
-use records::tally::Tally;
-use vectors::outcome::Outcome;
+use outcome::Outcome;
 
 pub fn outcome(kind: u8, body: &[u8], at_hand: &mut Lent) -> Outcome {
     match kind {
@@ -11,10 +10,4 @@ pub fn outcome(kind: u8, body: &[u8], at_hand: &mut Lent) -> Outcome {
         15 => frames::refused(body, at_hand),
         _ => Outcome::Malformed,
     }
-}
-
-pub fn print(tally: Tally) {
-    tally.print_kind(13, b"frame built");
-    tally.print_kind(14, b"frame opened");
-    tally.print_kind(15, b"frame refused");
 }

@@ -3,9 +3,8 @@ ghost use mathlib.Core.Path.{_≡_};
 ghost use Prim.Native.Nat.{_≤_};
 ghost use lib.ListN.{length};
 use crate::Lent;
+use outcome::Outcome;
 use vectors::numbers;
-use vectors::outcome;
-use vectors::outcome::Outcome;
 
 // Fills the bytes with a pattern, again and again. An empty one leaves them as they are.
 fn repeat(pattern: &[u8], bytes: &mut [u8]) {

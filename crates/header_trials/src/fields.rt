@@ -7,65 +7,37 @@ use crate::messages;
 use crate::messages::Message;
 use counts::Rxfn;
 use counts::Txfn;
-use fast_channel::FastChannel;
 use header::Fields;
 use header::Header;
 use vectors::numbers;
 
-fn message_bytes(channel: FastChannel) -> [u8; 7] {
-    let message = messages::numbers(channel);
-    let first = numbers::two_bytes(message.first);
-    let second = numbers::two_bytes(message.second);
-    let third = numbers::two_bytes(message.third);
-    [
-        message.kind,
-        first[0],
-        first[1],
-        second[0],
-        second[1],
-        third[0],
-        third[1],
-    ]
+fn write_message(bytes: &mut [u8; 24], message: Message) {
+    bytes[17] = message.kind;
+    numbers::write_two(bytes, 18, message.first);
+    numbers::write_two(bytes, 20, message.second);
+    numbers::write_two(bytes, 22, message.third);
 }
 
-// All fields but TXFN, the type and the message.
-fn middle_bytes(fields: Fields) -> [u8; 14] {
-    let rxfn = numbers::two_bytes(fields.rxfn.0);
-    let stamp = numbers::eight_bytes(fields.stamp);
-    [
-        rxfn[0],
-        rxfn[1],
-        fields.ack as u8,
-        fields.valid as u8,
-        stamp[0],
-        stamp[1],
-        stamp[2],
-        stamp[3],
-        stamp[4],
-        stamp[5],
-        stamp[6],
-        stamp[7],
-        fields.seconds,
-        fields.applies,
-    ]
-}
-
-// All fields but TXFN and the type, at their places.
-fn fields_bytes(fields: Fields) -> [u8; 24] {
+// All fields but TXFN and the type.
+fn write_fields(bytes: &mut [u8; 24], fields: Fields) {
+    numbers::write_two(bytes, 3, fields.rxfn.0);
+    bytes[5] = fields.ack as u8;
+    bytes[6] = fields.valid as u8;
+    numbers::write_eight(bytes, 7, fields.stamp);
+    bytes[15] = fields.seconds;
+    bytes[16] = fields.applies;
     let message = fields.message;
-    let mut bytes = [0u8; 24];
-    lent::write_at(&mut bytes, 3, &middle_bytes(fields));
-    lent::write_at(&mut bytes, 17, &message_bytes(message));
-    bytes
+    write_message(bytes, messages::numbers(message));
 }
 
 // Every field of a header.
 pub fn bytes(header: Header) -> [u8; 24] {
     let kind = header.kind;
     let fields = header.fields;
-    let mut bytes = fields_bytes(fields);
-    lent::write_at(&mut bytes, 0, &numbers::two_bytes(header.txfn.0));
+    let mut bytes = [0u8; 24];
+    numbers::write_two(&mut bytes, 0, header.txfn.0);
     bytes[2] = header::coding::kind_number(kind);
+    write_fields(&mut bytes, fields);
     bytes
 }
 

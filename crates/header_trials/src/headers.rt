@@ -1,10 +1,9 @@
 // The kinds of record that try the level and the bare header.
 use crate::fields;
 use header::CodeAnswer;
+use outcome::Outcome;
 use reading::ReadAnswer;
 use vectors::numbers;
-use vectors::outcome;
-use vectors::outcome::Outcome;
 
 // How far the level of a code lies below 0.
 fn below_zero(code: u8) -> u32 {

@@ -1,7 +1,6 @@
-// The kinds of record that try the level and the bare header, 10 to 12: which function tries one, and its line in the table.
+// The kinds of record that try the level and the bare header, 10 to 12, and the function that tries each.
 use crate::headers;
-use records::tally::Tally;
-use vectors::outcome::Outcome;
+use outcome::Outcome;
 
 pub fn outcome(kind: u8, body: &mut [u8]) -> Outcome {
     match kind {
@@ -10,10 +9,4 @@ pub fn outcome(kind: u8, body: &mut [u8]) -> Outcome {
         12 => headers::read(body),
         _ => Outcome::Malformed,
     }
-}
-
-pub fn print(tally: Tally) {
-    tally.print_kind(10, b"level");
-    tally.print_kind(11, b"header coded");
-    tally.print_kind(12, b"header read");
 }

@@ -5,9 +5,8 @@ use crate::buffers;
 use crate::states;
 use frame_trials::Lent;
 use frame_trials::lent_bytes;
+use outcome::Outcome;
 use vectors::numbers;
-use vectors::outcome;
-use vectors::outcome::Outcome;
 
 // The answer, the digests of hold and list.
 fn outcome_of(answer: &[u8; 54], hold: &[u8], list: &[u8], expected: &[u8]) -> Outcome {
@@ -29,6 +28,27 @@ fn answer_of(body: &[u8], frame: &[u8], hold: &mut [u8], list: &mut [u8]) -> [u8
     states::answer(answer, receiver)
 }
 
+// A frame arrives, at the hold and the list of the lengths in a body.
+fn arrived(body: &[u8], frame: &[u8], hold: &mut [u8], list: &mut [u8]) -> Outcome
+    requires { ⌜ 91 ≤ length (now body) ⌝ }
+{
+    let hold_length = numbers::two_at(body, 17) as usize;
+    if hold.len() < hold_length {
+        return Outcome::Malformed;
+    }
+    let list_length = numbers::two_at(body, 19) as usize;
+    if list.len() < list_length {
+        return Outcome::Malformed;
+    }
+    let answer = answer_of(
+        body,
+        frame,
+        &mut hold[0..hold_length],
+        &mut list[0..list_length],
+    );
+    outcome_of(&answer, hold, list, &body[21..91])
+}
+
 // Taps, the state, the lengths of frame, hold and list; the answer, the digests of hold and list; changes to the frame at hand, which then arrives.
 pub fn received(body: &[u8], at_hand: &Lent, hold: &mut [u8], list: &mut [u8]) -> Outcome {
     if body.len() < 91 {
@@ -38,20 +58,6 @@ pub fn received(body: &[u8], at_hand: &Lent, hold: &mut [u8], list: &mut [u8]) -
     if 2100 < length {
         return Outcome::Malformed;
     }
-    let hold_length = numbers::two_at(body, 17) as usize;
-    if hold.len() < hold_length {
-        return Outcome::Malformed;
-    }
-    let list_length = numbers::two_at(body, 19) as usize;
-    if list.len() < list_length {
-        return Outcome::Malformed;
-    }
     let frame = lent_bytes::changed(at_hand, &body[91..]);
-    let answer = answer_of(
-        body,
-        &frame[0..length],
-        &mut hold[0..hold_length],
-        &mut list[0..list_length],
-    );
-    outcome_of(&answer, hold, list, &body[21..91])
+    arrived(body, &frame[0..length], hold, list)
 }

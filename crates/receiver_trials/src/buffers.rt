@@ -1,8 +1,8 @@
 // The kinds of record that set the bytes of hold and list, or compare them.
 use frame_trials::lent_bytes;
+use outcome::Outcome;
+use vectors::digest;
 use vectors::numbers;
-use vectors::outcome;
-use vectors::outcome::Outcome;
 use vectors::seeded;
 
 // The hold that is lent to calls, and some bytes behind it, so that a byte written past its end is seen. No bytes yet.
@@ -21,8 +21,8 @@ pub fn outcome(hold: &[u8], list: &[u8], expected: &[u8]) -> Outcome {
         return Outcome::Malformed;
     }
     outcome::both(
-        outcome::of_digest(hold, &expected[0..8]),
-        outcome::of_digest(list, &expected[8..]),
+        digest::outcome(hold, &expected[0..8]),
+        digest::outcome(list, &expected[8..]),
     )
 }
 
@@ -42,7 +42,7 @@ pub fn list_changed(body: &[u8], list: &mut [u8]) -> Outcome {
         return Outcome::Malformed;
     }
     lent_bytes::change(&body[8..], list);
-    outcome::of_digest(list, &body[0..8])
+    digest::outcome(list, &body[0..8])
 }
 
 // The first bytes of the hold or of the list, as many as are given.

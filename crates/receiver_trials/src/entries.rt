@@ -1,17 +1,17 @@
 // The kind of record that tries the reading of the list.
 use list::EntryAnswer;
+use outcome::Outcome;
+use vectors::digest;
 use vectors::numbers;
-use vectors::outcome;
-use vectors::outcome::Outcome;
 
 // What stands at a position: the refusal's number, 0 for none; 1 for a packet; its place, its length and the position after it, 8 bytes each.
 fn answer(number: u8, is_packet: u8, start: usize, length: usize, next: usize) -> [u8; 26] {
     let mut answer = [0u8; 26];
     answer[0] = number;
     answer[1] = is_packet;
-    lent::write_at(&mut answer, 2, &numbers::eight_bytes(start as u64));
-    lent::write_at(&mut answer, 10, &numbers::eight_bytes(length as u64));
-    lent::write_at(&mut answer, 18, &numbers::eight_bytes(next as u64));
+    numbers::write_eight(&mut answer, 2, start as u64);
+    numbers::write_eight(&mut answer, 10, length as u64);
+    numbers::write_eight(&mut answer, 18, next as u64);
     answer
 }
 
@@ -41,6 +41,6 @@ pub fn read(body: &[u8], bytes: &[u8]) -> Outcome {
     let found = entry_answer(list::entry(list, position));
     outcome::both(
         outcome::of(&found, &body[10..36]),
-        outcome::of_digest(list::packet(list, position), &body[36..]),
+        digest::outcome(list::packet(list, position), &body[36..]),
     )
 }

@@ -1,10 +1,9 @@
-// The kinds of record that try the receiver and its list, 21 to 26: which function tries one, and its line in the table.
+// The kinds of record that try the receiver and its list, 21 to 26, and the function that tries each.
 use crate::arrivals;
 use crate::buffers;
 use crate::entries;
 use frame_trials::Lent;
-use records::tally::Tally;
-use vectors::outcome::Outcome;
+use outcome::Outcome;
 
 pub fn outcome(kind: u8, body: &[u8], at_hand: &Lent, hold: &mut [u8], list: &mut [u8]) -> Outcome {
     match kind {
@@ -16,13 +15,4 @@ pub fn outcome(kind: u8, body: &[u8], at_hand: &Lent, hold: &mut [u8], list: &mu
         26 => buffers::front_in_full(body, hold),
         _ => Outcome::Malformed,
     }
-}
-
-pub fn print(tally: Tally) {
-    tally.print_kind(21, b"hold and list begun");
-    tally.print_kind(22, b"frame received");
-    tally.print_kind(23, b"list changed");
-    tally.print_kind(24, b"list read");
-    tally.print_kind(25, b"list in full");
-    tally.print_kind(26, b"hold in full");
 }

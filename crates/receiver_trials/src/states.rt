@@ -35,22 +35,26 @@ fn expected_bytes(expected: Expected) -> [u8; 3] {
     }
 }
 
-// The numbers of an answer: the frames missed 2, the packets 8, the bytes of the list 8, the state after the call.
-fn counts(missed: u16, packets: usize, listed: usize, receiver: Receiver) -> [u8; 29] {
+fn write_receiver(bytes: &mut [u8; 54], receiver: Receiver) {
     let expected = receiver.expected;
-    let mut counts = [0u8; 29];
-    lent::write_at(&mut counts, 0, &numbers::two_bytes(missed));
-    lent::write_at(&mut counts, 2, &numbers::eight_bytes(packets as u64));
-    lent::write_at(&mut counts, 10, &numbers::eight_bytes(listed as u64));
-    lent::write_at(&mut counts, 18, &expected_bytes(expected));
-    lent::write_at(&mut counts, 21, &numbers::eight_bytes(receiver.held as u64));
-    counts
+    lent::write_at(bytes, 43, &expected_bytes(expected));
+    numbers::write_eight(bytes, 46, receiver.held as u64);
 }
 
-fn joined(head: &[u8; 25], counts: &[u8; 29]) -> [u8; 54] {
+// The numbers behind the head of an answer: the frames missed 2, the packets 8, the bytes of the list 8, the state after the call.
+fn joined(
+    head: &[u8; 25],
+    missed: u16,
+    packets: usize,
+    listed: usize,
+    receiver: Receiver,
+) -> [u8; 54] {
     let mut answer = [0u8; 54];
     lent::write_at(&mut answer, 0, head);
-    lent::write_at(&mut answer, 25, counts);
+    numbers::write_two(&mut answer, 25, missed);
+    numbers::write_eight(&mut answer, 27, packets as u64);
+    numbers::write_eight(&mut answer, 35, listed as u64);
+    write_receiver(&mut answer, receiver);
     answer
 }
 
@@ -63,12 +67,7 @@ pub fn answer(found: ReceiveAnswer, given: Receiver) -> [u8; 54] {
             packets,
             listed,
             receiver,
-        } => joined(
-            &fields::accepted(header),
-            &counts(missed, packets, listed, receiver),
-        ),
-        ReceiveAnswer::Refused(number) => {
-            joined(&fields::refused(number), &counts(0, 0, 0, given))
-        }
+        } => joined(&fields::accepted(header), missed, packets, listed, receiver),
+        ReceiveAnswer::Refused(number) => { joined(&fields::refused(number), 0, 0, 0, given) }
     }
 }

@@ -5,9 +5,9 @@ use crate::states;
 use frame_trials::Lent;
 use frame_trials::lent_bytes;
 use header_trials::fields;
+use outcome::Outcome;
+use vectors::digest;
 use vectors::numbers;
-use vectors::outcome;
-use vectors::outcome::Outcome;
 use vectors::seeded;
 
 // The answer, the digest of the queue.
@@ -17,7 +17,7 @@ fn put_outcome(answer: &[u8; 12], queue: &[u8], expected: &[u8]) -> Outcome {
     }
     outcome::both(
         outcome::of(answer, &expected[0..12]),
-        outcome::of_digest(queue, &expected[12..]),
+        digest::outcome(queue, &expected[12..]),
     )
 }
 
@@ -56,7 +56,7 @@ fn output_outcome(output: &[u8], expected: &[u8], frame: &[u8]) -> Outcome {
         return Outcome::Malformed;
     }
     outcome::both(
-        outcome::of_digest(output, expected),
+        digest::outcome(output, expected),
         outcome::of(&output[0..length], frame),
     )
 }
@@ -89,16 +89,10 @@ fn next_answer(body: &[u8], queue: &mut [u8], output: &mut [u8]) -> [u8; 12]
     states::next_answer(answer, sender)
 }
 
-// Taps, fields, state, the queue's length, the length lent for the frame; the answer, the digests of the queue and of what was lent for the frame, and
-// of some frames every byte. A frame that was sent is then at hand.
-pub fn next_frame(body: &[u8], queue: &mut [u8], at_hand: &mut Lent) -> Outcome {
-    if body.len() < 42 {
-        return Outcome::Malformed;
-    }
-    let given = fields::first(&body[4..]);
-    if !fields::are_a_header(&given) {
-        return Outcome::Malformed;
-    }
+// A frame is sent from the queue, with the lengths in a body. It is then at hand.
+fn sent(body: &[u8], queue: &mut [u8], at_hand: &mut Lent) -> Outcome
+    requires { ⌜ 42 ≤ length (now body) ⌝ }
+{
     let length = numbers::two_at(body, 38) as usize;
     if queue.len() < length {
         return Outcome::Malformed;
@@ -113,4 +107,17 @@ pub fn next_frame(body: &[u8], queue: &mut [u8], at_hand: &mut Lent) -> Outcome 
         *at_hand = output;
     }
     next_outcome(&answer, queue, &output, &body[42..])
+}
+
+// Taps, fields, state, the queue's length, the length lent for the frame; the answer, the digests of the queue and of what was lent for the frame, and
+// of some frames every byte.
+pub fn next_frame(body: &[u8], queue: &mut [u8], at_hand: &mut Lent) -> Outcome {
+    if body.len() < 42 {
+        return Outcome::Malformed;
+    }
+    let given = fields::first(&body[4..]);
+    if !fields::are_a_header(&given) {
+        return Outcome::Malformed;
+    }
+    sent(body, queue, at_hand)
 }

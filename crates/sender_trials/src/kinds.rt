@@ -1,9 +1,8 @@
-// The kinds of record that try the sender, 16 to 20: which function tries one, and its line in the table.
+// The kinds of record that try the sender, 16 to 20, and the function that tries each.
 use crate::calls;
 use crate::queues;
 use frame_trials::Lent;
-use records::tally::Tally;
-use vectors::outcome::Outcome;
+use outcome::Outcome;
 
 pub fn outcome(kind: u8, body: &[u8], queue: &mut [u8], at_hand: &mut Lent) -> Outcome {
     match kind {
@@ -14,12 +13,4 @@ pub fn outcome(kind: u8, body: &[u8], queue: &mut [u8], at_hand: &mut Lent) -> O
         20 => queues::in_full(body, queue),
         _ => Outcome::Malformed,
     }
-}
-
-pub fn print(tally: Tally) {
-    tally.print_kind(16, b"queue begun");
-    tally.print_kind(17, b"queue changed");
-    tally.print_kind(18, b"packet put");
-    tally.print_kind(19, b"next frame");
-    tally.print_kind(20, b"queue in full");
 }

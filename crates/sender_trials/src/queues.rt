@@ -1,8 +1,8 @@
 // The kinds of record that set the queue's bytes, or compare them.
 use frame_trials::lent_bytes;
+use outcome::Outcome;
+use vectors::digest;
 use vectors::numbers;
-use vectors::outcome;
-use vectors::outcome::Outcome;
 use vectors::seeded;
 
 // The queue that is lent to calls, and some bytes behind it, so that a byte written past its end is seen. No bytes yet.
@@ -16,7 +16,7 @@ pub fn begun(body: &[u8], queue: &mut [u8]) -> Outcome {
         return Outcome::Malformed;
     }
     seeded::fill(numbers::four_at(body, 0), queue);
-    outcome::of_digest(queue, &body[4..])
+    digest::outcome(queue, &body[4..])
 }
 
 // The digest of the queue after some changes, and the changes.
@@ -25,7 +25,7 @@ pub fn changed(body: &[u8], queue: &mut [u8]) -> Outcome {
         return Outcome::Malformed;
     }
     lent_bytes::change(&body[8..], queue);
-    outcome::of_digest(queue, &body[0..8])
+    digest::outcome(queue, &body[0..8])
 }
 
 // A seed and bytes: every byte of the queue, and of those behind it. They are the bytes given, and then those from the seed.

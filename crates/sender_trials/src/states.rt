@@ -20,22 +20,12 @@ pub fn sender(bytes: &[u8], at: usize) -> Sender
 
 // The refusal's number, 0 for none; the type of the frame that was sent, 0 where none was; the state after the call.
 fn answer(number: u8, kind: u8, sender: Sender) -> [u8; 12] {
-    let used = numbers::eight_bytes(sender.used as u64);
-    let next = numbers::two_bytes(sender.next.0);
-    [
-        number,
-        kind,
-        used[0],
-        used[1],
-        used[2],
-        used[3],
-        used[4],
-        used[5],
-        used[6],
-        used[7],
-        next[0],
-        next[1],
-    ]
+    let mut answer = [0u8; 12];
+    answer[0] = number;
+    answer[1] = kind;
+    numbers::write_eight(&mut answer, 2, sender.used as u64);
+    numbers::write_two(&mut answer, 10, sender.next.0);
+    answer
 }
 
 // What put answers. A refusal leaves the state that was given.

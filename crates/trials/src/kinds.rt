@@ -1,7 +1,7 @@
-// The kinds of record: which crate tries one. Numbers are never used for another kind.
+// The kinds of record: which crate tries one, and its line in the table. Numbers are never used for another kind.
 use frame_trials::Lent;
-use records::tally::Tally;
-use vectors::outcome::Outcome;
+use outcome::Outcome;
+use vector_records::tally::Tally;
 use vectors::text;
 
 // The frame at hand is the last that a record brought. It, the sender's queue and the receiver's hold and list stay from record to record.
@@ -30,9 +30,18 @@ pub fn outcome(
 
 pub fn print(tally: Tally) {
     text::say(b"compared different kind\n");
-    code_trials::kinds::print(tally);
-    header_trials::kinds::print(tally);
-    frame_trials::kinds::print(tally);
-    sender_trials::kinds::print(tally);
-    receiver_trials::kinds::print(tally);
+    tally.print_kinds(
+        1,
+        b"CRC-16\nCRC-32\npower of 2\nparity\ncodeword judged\npayload coded\npayload judged\ntaps judged\nbytes scrambled\n",
+    );
+    tally.print_kinds(10, b"level\nheader coded\nheader read\n");
+    tally.print_kinds(13, b"frame built\nframe opened\nframe refused\n");
+    tally.print_kinds(
+        16,
+        b"queue begun\nqueue changed\npacket put\nnext frame\nqueue in full\n",
+    );
+    tally.print_kinds(
+        21,
+        b"hold and list begun\nframe received\nlist changed\nlist read\nlist in full\nhold in full\n",
+    );
 }

@@ -6,10 +6,10 @@ use code_trials::published;
 use frame_trials::Lent;
 use frame_trials::frames;
 use receiver_trials::buffers;
-use records::record;
-use records::record::Head;
-use records::tally::Tally;
 use sender_trials::queues;
+use vector_records::record;
+use vector_records::record::Head;
+use vector_records::tally::Tally;
 use vectors::text;
 
 // Reads the body of a record, and tries it. The 65,536 bytes that are lent have room for every body.

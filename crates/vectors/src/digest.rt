@@ -1,5 +1,7 @@
 // A digest of 64 bits, FNV-1a, for bytes that are too many to be stored. It stands in for them in a comparison: bytes that differ have the same
 // digest by chance alone, once in 2^64.
+use crate::numbers;
+use outcome::Outcome;
 
 // The number times the prime of FNV-1a, 2^40 + 435, modulo 2^64.
 fn times_prime(number: u64) -> u64 {
@@ -21,4 +23,9 @@ pub fn of(bytes: &[u8]) -> u64 {
         i += 1;
     }
     digest
+}
+
+// Whether the bytes found have the digest expected, of 8 bytes.
+pub fn outcome(found: &[u8], expected: &[u8]) -> Outcome {
+    outcome::of(&numbers::eight_bytes(of(found)), expected)
 }

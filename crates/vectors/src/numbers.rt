@@ -82,3 +82,17 @@ pub fn eight_at(bytes: &[u8], at: usize) -> u64
 {
     of_eight(four_at(bytes, at), four_at(bytes, at + 4))
 }
+
+// Writes a number into the two bytes from an index on.
+pub fn write_two(bytes: &mut [u8], at: usize, number: u16)
+    requires { ⌜ at + 2 ≤ length (now bytes) ⌝ }
+{
+    lent::write_at(bytes, at, &two_bytes(number));
+}
+
+// Writes a number into the eight bytes from an index on.
+pub fn write_eight(bytes: &mut [u8], at: usize, number: u64)
+    requires { ⌜ at + 8 ≤ length (now bytes) ⌝ }
+{
+    lent::write_at(bytes, at, &eight_bytes(number));
+}

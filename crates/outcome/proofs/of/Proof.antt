@@ -1,9 +1,9 @@
--- `vectors::outcome::of` meets its contract: by what `check::same` ensures, and since `Different` is not `Same`.
+-- `outcome::of` meets its contract: by what `check::same` ensures, and since `Different` is not `Same`.
 -- Assumes nothing.
 use borrow.Author.Needs.{needs}
 use mathlib.Core.Path.{refl}
-use Rattle.vectors.proofs.outcome.of.Statement.{statement}
-use Rattle.vectors.proofs.outcome.of.Tie as tie
+use Rattle.outcome.proofs.of.Statement.{statement}
+use Rattle.outcome.proofs.of.Tie as tie
 
 same-requires : tie.Need-same-requires
 same-requires c κs = search needs

@@ -1,7 +1,7 @@
--- `vectors::outcome::both` meets its contract: by the case of the first. Assumes nothing.
+-- `outcome::both` meets its contract: by the case of the first. Assumes nothing.
 use borrow.Author.Needs.{needs}
-use Rattle.vectors.proofs.outcome.both.Statement.{statement}
-use Rattle.vectors.proofs.outcome.both.Tie as tie
+use Rattle.outcome.proofs.both.Statement.{statement}
+use Rattle.outcome.proofs.both.Tie as tie
 
 enum-told : tie.Need-enum-told
 enum-told c = search needs

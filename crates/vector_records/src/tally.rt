@@ -1,7 +1,7 @@
 // What the records came to.
+use outcome::Outcome;
 use vectors::count;
 use vectors::count::Count;
-use vectors::outcome::Outcome;
 use vectors::text;
 
 // A record's kind is a number below this one.
@@ -91,11 +91,26 @@ impl Tally {
         text::say(what);
     }
 
-    // The line of a kind.
-    pub fn print_kind(self, kind: usize, name: &[u8]) {
-        if kind < KINDS {
-            let of_kind = self.kinds[kind];
+    fn print_kind(self, kind: u64, name: &[u8]) {
+        let at = kind as usize;
+        if at < KINDS {
+            let of_kind = self.kinds[at];
             of_kind.print_row(name);
+        }
+    }
+
+    // The lines of the kinds from a number on. Each name ends in a new line.
+    pub fn print_kinds(self, first: u64, names: &[u8]) {
+        let mut kind = first;
+        let mut start: usize = 0;
+        let mut i: usize = 0;
+        while i < names.len() {
+            if names[i] == 10 {
+                self.print_kind(kind, &names[start..i]);
+                kind = count::more(kind);
+                start = i + 1;
+            }
+            i += 1;
         }
     }
 

@@ -1,8 +1,6 @@
-// What the trial of a record comes to.
+// What the trial of a record comes to. Bytes that differ are never called the same.
 ghost use mathlib.Core.Logic.{_↔_};
 ghost use mathlib.Core.Path.{_≡_};
-use crate::digest;
-use crate::numbers;
 
 pub enum Outcome {
     Same,
@@ -20,11 +18,6 @@ pub fn of(found: &[u8], expected: &[u8]) -> Outcome
     } else {
         Outcome::Different
     }
-}
-
-// Whether the bytes found have the digest expected, of 8 bytes.
-pub fn of_digest(found: &[u8], expected: &[u8]) -> Outcome {
-    of(&numbers::eight_bytes(digest::of(found)), expected)
 }
 
 // What two results of one record come to: the same only where both are.
