@@ -9,7 +9,6 @@ use borrow.Author.Tests.{eqb-true, eqb-false, lt-ltb, le-leb, leb-true}
 use Rattle.basics.proofs.Tests.{left-true, right-true, both-true}
 use Rattle.fast_channel.specs.FastChannel.{messageFits}
 use Rattle.flat_headers.specs.Messages.{firstMost, secondMost, thirdMost, numbersFit, messageOf}
-use Rattle.flat_headers.specs.declared.messages.FlatMessage.{FlatMessage}
 
 abbrev Sent : ℕ → Type 0
 Sent opcode =

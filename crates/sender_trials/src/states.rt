@@ -2,7 +2,6 @@
 ghost use Prim.Native.Nat.{_+_, _≤_};
 ghost use lib.ListN.{length};
 use counts::Txfn;
-use header_trials::fields;
 use sender::PutAnswer;
 use sender::Sender;
 use sending::NextAnswer;

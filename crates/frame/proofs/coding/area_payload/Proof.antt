@@ -1,6 +1,6 @@
-use mathlib.Core.Path.{_≡_, ap, _∙_}
+use mathlib.Core.Path.{ap, _∙_}
 use mathlib.Core.List.{_++_}
-use lib.ListN.{length, take}
+use lib.ListN.{take}
 use Rattle.basics.specs.Lists.{zeros}
 use Rattle.lent.specs.Written.{written}
 use Rattle.lent.proofs.Written.{written-front}
