@@ -22,7 +22,7 @@ pub fn read_head() -> Head {
     }
     Head::Record {
         kind: bytes[0],
-        length: numbers::of_two(bytes[1], bytes[2]) as usize,
+        length: numbers::two_at(&bytes, 1) as usize,
     }
 }
 
@@ -32,7 +32,7 @@ pub fn read_count() -> u64 {
     if !is_read(&mut bytes) {
         return 1;
     }
-    numbers::of_four(bytes[0], bytes[1], bytes[2], bytes[3]) as u64
+    numbers::four_at(&bytes, 0) as u64
 }
 
 // Whether nothing is left of the input.

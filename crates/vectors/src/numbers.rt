@@ -30,7 +30,7 @@ pub fn of_two(high: u8, low: u8) -> u32
 }
 
 // The number of four bytes.
-pub fn of_four(first: u8, second: u8, third: u8, fourth: u8) -> u32
+fn of_four(first: u8, second: u8, third: u8, fourth: u8) -> u32
     ensures { λ r. ⌜ r ≡ (first * 256 + second) * 65536 + (third * 256 + fourth) ⌝ }
 {
     of_two(first, second) * 65536 + of_two(third, fourth)
