@@ -2,9 +2,8 @@
 // it: `opened` opens it as it is, `refused` with some of its bytes changed.
 ghost use Prim.Native.Nat.{_≤_};
 ghost use lib.ListN.{length};
-use crate::Lent;
-use crate::lent_bytes;
 use header_trials::fields;
+use lent_bytes::Lent;
 use opening::OpenAnswer;
 use outcome::Outcome;
 use vectors::numbers;

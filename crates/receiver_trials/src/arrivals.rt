@@ -3,8 +3,7 @@ ghost use Prim.Native.Nat.{_≤_};
 ghost use lib.ListN.{length};
 use crate::buffers;
 use crate::states;
-use frame_trials::Lent;
-use frame_trials::lent_bytes;
+use lent_bytes::Lent;
 use outcome::Outcome;
 use vectors::numbers;
 

@@ -2,7 +2,7 @@
 use crate::arrivals;
 use crate::buffers;
 use crate::entries;
-use frame_trials::Lent;
+use lent_bytes::Lent;
 use outcome::Outcome;
 
 pub fn outcome(kind: u8, body: &[u8], at_hand: &Lent, hold: &mut [u8], list: &mut [u8]) -> Outcome {

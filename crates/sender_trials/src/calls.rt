@@ -2,9 +2,8 @@
 ghost use Prim.Native.Nat.{_≤_};
 ghost use lib.ListN.{length};
 use crate::states;
-use frame_trials::Lent;
-use frame_trials::lent_bytes;
 use header_trials::fields;
+use lent_bytes::Lent;
 use outcome::Outcome;
 use vectors::digest;
 use vectors::numbers;

@@ -1,7 +1,7 @@
 // The kinds of record that try the sender, 16 to 20, and the function that tries each.
 use crate::calls;
 use crate::queues;
-use frame_trials::Lent;
+use lent_bytes::Lent;
 use outcome::Outcome;
 
 pub fn outcome(kind: u8, body: &[u8], queue: &mut [u8], at_hand: &mut Lent) -> Outcome {

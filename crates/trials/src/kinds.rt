@@ -1,5 +1,5 @@
 // The kinds of record: which crate tries one, and its line in the table. Numbers are never used for another kind.
-use frame_trials::Lent;
+use lent_bytes::Lent;
 use outcome::Outcome;
 use vector_records::tally::Tally;
 use vectors::text;

@@ -3,8 +3,8 @@
 mod kinds;
 
 use code_trials::published;
-use frame_trials::Lent;
 use frame_trials::frames;
+use lent_bytes::Lent;
 use receiver_trials::buffers;
 use sender_trials::queues;
 use vector_records::record;

@@ -1,12 +1,12 @@
--- `frame_trials::lent_bytes::repeat` is safe and ends: the measure is the number of bytes that are left. Assumes nothing.
+-- `lent_bytes::repeat` is safe and ends: the measure is the number of bytes that are left. Assumes nothing.
 use borrow.Author.Needs.{needs}
 use mathlib.Core.Path.{_≡_}
 use Prim.Native.Nat.{_-_, _<_}
 use native.Mathlib.Nat.{mod-lt}
 use native.Mathlib.Omega.{arith}
 use lib.ListN.{length, length-set}
-use Rattle.frame_trials.proofs.lent_bytes.repeat.Statement.{statement}
-use Rattle.frame_trials.proofs.lent_bytes.repeat.Tie as tie
+use Rattle.lent_bytes.proofs.repeat.Statement.{statement}
+use Rattle.lent_bytes.proofs.repeat.Tie as tie
 
 abbrev Inv-loop : tie.InvT-loop
 Inv-loop pattern bytes₀ period i₀ bytes i = (length bytes ≡ length bytes₀) × (0 < period) × (period ≡ length pattern)

@@ -1,10 +1,10 @@
--- `frame_trials::lent_bytes::change` is safe and ends: the measure is the number of changes that are left. Assumes nothing.
+-- `lent_bytes::change` is safe and ends: the measure is the number of changes that are left. Assumes nothing.
 use borrow.Author.Needs.{needs}
 use mathlib.Core.Path.{_≡_}
 use Prim.Native.Nat.{_-_, _*_, _≤_}
 use lib.ListN.{length}
-use Rattle.frame_trials.proofs.lent_bytes.change.Statement.{statement}
-use Rattle.frame_trials.proofs.lent_bytes.change.Tie as tie
+use Rattle.lent_bytes.proofs.change.Statement.{statement}
+use Rattle.lent_bytes.proofs.change.Tie as tie
 
 abbrev Inv-loop : tie.InvT-loop
 Inv-loop changes bytes₀ count i₀ bytes i = (length bytes ≡ length bytes₀) × (3 * count ≤ length changes)

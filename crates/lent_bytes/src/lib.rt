@@ -2,9 +2,12 @@
 ghost use mathlib.Core.Path.{_≡_};
 ghost use Prim.Native.Nat.{_≤_};
 ghost use lib.ListN.{length};
-use crate::Lent;
 use outcome::Outcome;
 use vectors::numbers;
+
+// What is lent to a call and compared after it: more bytes than a frame or an area has, so that a byte written past its end
+// is seen. A frame at hand stands at the front of as many.
+pub type Lent = [u8; 2100];
 
 // Fills the bytes with a pattern, again and again. An empty one leaves them as they are.
 fn repeat(pattern: &[u8], bytes: &mut [u8]) {
