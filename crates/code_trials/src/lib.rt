@@ -1,4 +1,3 @@
-// The kinds of record that try the codes; and check values that are published.
+// The kinds of record that try the codes.
 mod codes;
 pub mod kinds;
-pub mod published;

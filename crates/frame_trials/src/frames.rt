@@ -2,7 +2,7 @@
 // it: `opened` opens it as it is, `refused` with some of its bytes changed.
 ghost use Prim.Native.Nat.{_≤_};
 ghost use lib.ListN.{length};
-use header_trials::fields;
+use header_fields::fields;
 use lent_bytes::Lent;
 use opening::OpenAnswer;
 use outcome::Outcome;

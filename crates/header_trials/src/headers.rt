@@ -1,6 +1,6 @@
 // The kinds of record that try the level and the bare header.
-use crate::fields;
 use header::CodeAnswer;
+use header_fields::fields;
 use outcome::Outcome;
 use reading::ReadAnswer;
 use vectors::numbers;

@@ -2,7 +2,7 @@
 ghost use Prim.Native.Nat.{_≤_};
 ghost use lib.ListN.{length};
 use crate::states;
-use header_trials::fields;
+use header_fields::fields;
 use lent_bytes::Lent;
 use outcome::Outcome;
 use vectors::digest;

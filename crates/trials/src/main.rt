@@ -2,7 +2,6 @@
 // standard input, and prints how many agree. `tests/README.md` says where the vectors come from.
 mod kinds;
 
-use code_trials::published;
 use frame_trials::frames;
 use lent_bytes::Lent;
 use receiver_trials::buffers;

@@ -1,0 +1,3 @@
+// A header as the vectors hold it.
+pub mod fields;
+mod messages;
