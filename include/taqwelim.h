@@ -113,10 +113,12 @@ typedef struct taqwelim_header {
     uint8_t kind; /* 0 to 3 */
 } taqwelim_header;
 
-/* The sender's state: how many bytes of the queue are used, and the TXFN of the next frame. */
+/* The sender's state. The queue is a ring: behind its last byte stands its first. Byte i of the waiting packets stands
+ * at queue[(start + i) % 32768], for i below used. A state saved before there was a start has the start 0. */
 typedef struct taqwelim_sender {
-    size_t used;
-    uint16_t next;
+    size_t start;  /* where the waiting packets begin, below 32,768 */
+    size_t used;   /* how many bytes they use, with their marks; at most 32,768 */
+    uint16_t next; /* the TXFN of the next frame */
 } taqwelim_sender;
 
 /* The receiver's state: how many bytes of the hold are held, at most 8,999, and the TXFN that the next frame should
@@ -138,8 +140,9 @@ typedef struct taqwelim_put_answer {
 } taqwelim_put_answer;
 
 /* Puts a packet of 1 to 9,000 bytes behind those that wait.
- * Writes a mark of two bytes and the packet from queue[sender.used] on, and touches nothing else of the queue.
- * Refuses: 2 queue_length is not 32,768; 3 the queue is not whole; 4 the packet's length; 5 no room. */
+ * Writes a mark of two bytes and the packet behind the used bytes, round the ring, and touches nothing else of it.
+ * Refuses: 2 queue_length is not 32,768; 3 start is 32,768 or more, or the queue is not whole; 4 the packet's length;
+ * 5 no room, which goes by used alone. */
 taqwelim_put_answer taqwelim_put(uint8_t *queue, size_t queue_length, taqwelim_sender sender, const uint8_t *packet,
                                  size_t packet_length);
 
@@ -150,10 +153,10 @@ typedef struct taqwelim_next_answer {
 } taqwelim_next_answer;
 
 /* Builds the next frame at the front of out: the fields given, the sender's TXFN, and as much of the waiting packets as
- * fits. What still waits moves to the front of the queue; the queue's bytes past the new used count, and those of out
- * past the 2,081, keep their values.
- * Refuses: 1 the taps; 2 queue_length is not 32,768, or out_length is under 2,081; 3 the queue is not whole; 6 a field,
- * for an IDLE frame too. */
+ * fits. What still waits stays where it is, and the start moves on to it; of the queue at most two bytes are written,
+ * the new mark of a packet that was cut. All its other bytes, and those of out past the 2,081, keep their values.
+ * Refuses: 1 the taps; 2 queue_length is not 32,768, or out_length is under 2,081; 3 as for put; 6 a field, for an IDLE
+ * frame too. */
 taqwelim_next_answer taqwelim_next_frame(uint32_t taps, taqwelim_fields fields, taqwelim_sender sender, uint8_t *queue,
                                          size_t queue_length, uint8_t *out, size_t out_length);
 

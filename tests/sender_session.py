@@ -9,12 +9,14 @@
                        sent is then at hand
     20  queue in full  seed 4, bytes: the queue is these, and behind them it is as from the seed
 
-A state is the used bytes 8 and the number of the next frame 2. An answer is the refusal's number, 0 for none, the type
-of the frame that was sent, and the state after the call. Bytes from a seed are those of Numbers. The fields, TXFN and
-type among them, which the call does not have, are those of header_vectors.py; changes are those of frame_vectors.py.
+A state is the start 8, the used bytes 8 and the number of the next frame 2. An answer is the refusal's number, 0 for
+none, the type of the frame that was sent, and the state after the call. Bytes from a seed are those of Numbers. The
+fields, TXFN and type among them, which the call does not have, are those of header_vectors.py; changes are those of
+frame_vectors.py.
 
-The queue stays from record to record. It is 32,768 bytes and 12 more behind it, and what is lent for a frame is a part
-of 2,100 bytes that hold "kept" again and again. A digest is of all of them, whatever part a call was lent.
+The queue stays from record to record. It is the ring of 32,768 bytes and 12 more behind it, and what is lent for a
+frame is a part of 2,100 bytes that hold "kept" again and again. A digest is of all of them, whatever part a call was
+lent.
 """
 
 from functools import lru_cache
@@ -39,7 +41,7 @@ def seeded(seed, length):
 
 
 def state(given):
-    return given.used.to_bytes(8, "big") + given.next.to_bytes(2, "big")
+    return given.start.to_bytes(8, "big") + given.used.to_bytes(8, "big") + given.next.to_bytes(2, "big")
 
 
 def type_of(taps, frame):
@@ -51,9 +53,9 @@ class Session:
     """The state and the queue of the second coder's sender. A call answers with its record, and holds its number to the
     one that is meant."""
 
-    def __init__(self, seed, next=0):
+    def __init__(self, seed, start=0, next=0):
         self.seed = seed
-        self.sender = sender.Sender(0, next)
+        self.sender = sender.Sender(start, 0, next)
         self.buffer = seeded(seed, BUFFER)
         self.taps = None
         self.frame = None
@@ -100,7 +102,9 @@ class Session:
         shown = self.frame if full else b""
         return record(19, call, answer, digest(self.buffer), digest(output), shown)
 
-    def queue_in_full(self, front):
-        """Every byte of the queue: those at its front, and behind them those that it was begun with."""
-        assert self.buffer == front + seeded(self.seed, BUFFER)[len(front) :]
-        return record(20, self.seed.to_bytes(4, "big"), front)
+    def queue_in_full(self, queue):
+        """Every byte of the queue. Behind the last that differs from what it was begun with, the seed says them."""
+        begun = seeded(self.seed, BUFFER)
+        assert self.buffer == queue + begun[len(queue) :]
+        stored = max((place + 1 for place, byte in enumerate(queue) if byte != begun[place]), default=0)
+        return record(20, self.seed.to_bytes(4, "big"), queue[:stored])

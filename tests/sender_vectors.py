@@ -26,33 +26,37 @@ def area_of(*parts):
     return records + bytes(codes.AREA - len(records))
 
 
-def carried(numbers, session, area, front):
-    """A frame in full; its area, and the whole queue behind it."""
+def carried(numbers, session, area):
+    """A DATA frame in full, and its area."""
     header = some_header(numbers, frames.DATA, numbers.below(9))._replace(txfn=session.sender.next)
     yield session.next_frame(BENCH_TAPS, header, full=True)
     assert frames.open_frame(BENCH_TAPS, session.frame, codes.AREA) == (0, header, area)
     yield record(14, BENCH_TAPS.to_bytes(4, "big"), codes.AREA.to_bytes(2, "big"), b"\x00", fields(header), area)
-    yield session.queue_in_full(front)
 
 
 def sending(numbers, lengths, expected):
-    """Packets put, and the frames that carry them: of each the area, and what remains, at the queue's front."""
+    """Packets put, and the frames that carry them: of each the area, and what remains, which ends where it ended."""
     session = Session(numbers.next())
+    begun = session.queue
     packets = []
     yield session.begun()
     for length in lengths:
         seed = numbers.next()
         packets.append(seeded(seed, length))
         yield session.put(length, seed)
-    front = b"".join(written(f"{len(packet):04X}", packet) for packet in packets)
-    yield session.queue_in_full(front)
+    laid = b"".join(written(f"{len(packet):04X}", packet) for packet in packets)
+    behind = begun[len(laid) :]
+    yield session.queue_in_full(laid + behind)
     for parts, remains in expected(*packets):
-        moved = written(*remains)
-        front = moved + front[len(moved) :]
-        yield from carried(numbers, session, area_of(*parts), front)
-    assert session.sender.used == 0
+        remaining = written(*remains)
+        start = len(laid) - len(remaining)
+        laid = laid[:start] + remaining
+        yield from carried(numbers, session, area_of(*parts))
+        assert session.sender[:2] == (start, len(remaining))
+        yield session.queue_in_full(laid + behind)
     yield session.next_frame(BENCH_TAPS, some_header(numbers, frames.IDLE, 8), full=True)
-    yield session.queue_in_full(front)
+    assert session.sender[:2] == (len(laid), 0)
+    yield session.queue_in_full(laid + behind)
 
 
 def of_9000(packet):
@@ -79,17 +83,18 @@ def paper_records():
 def full_records(numbers):
     """Three packets of 9,000 use 27,006; a fourth of 5,760 is taken, of 5,761 refused."""
     session = Session(numbers.next())
+    begun = session.queue
     seeds = [numbers.next() for _ in range(4)]
     yield session.begun()
     for seed in seeds[:3]:
         yield session.put(9000, seed)
     assert session.sender.used == 27006
-    front = b"".join(written("2328", seeded(seed, 9000)) for seed in seeds[:3])
+    three = b"".join(written("2328", seeded(seed, 9000)) for seed in seeds[:3])
     yield session.put(5761, seeds[3], 5)
-    yield session.queue_in_full(front)
+    yield session.queue_in_full(three + begun[27006:])
     yield session.put(5760, seeds[3])
     assert session.sender.used == QUEUE
-    yield session.queue_in_full(front + written("1680", seeded(seeds[3], 5760)))
+    yield session.queue_in_full(three + written("1680", seeded(seeds[3], 5760)))
     yield session.put(1, seeds[0], 5)
     yield session.next_frame(BENCH_TAPS, some_header(numbers, frames.DATA, 0), full=True)
 
@@ -103,19 +108,25 @@ WHOLE = [[], [1], [9000], [BEGUN + 8999], [BEGUN + 1, 1], [BEGUN + 8999, 9000, 9
 NOT_WHOLE = [[9001], [0], [BEGUN], [BEGUN + 9000], [BEGUN + 9001], [1, BEGUN + 1], [5, BEGUN], [5, 0], [5, 9001]]
 
 
-def with_marks(queue, marks):
-    """The queue with these marks, each behind as many bytes as the one before it says; and where they end."""
-    place = 0
+def with_marks(queue, start, marks):
+    """The ring with these marks from a start on, each behind as many bytes as the one before it says; and how many
+    bytes they use."""
+    used = 0
     for mark in marks:
-        queue = queue[:place] + mark.to_bytes(2, "big") + queue[place + 2 :]
-        place += 2 + mark % BEGUN
-    return queue, place
+        queue = packing.written_round(queue, start + used, mark.to_bytes(2, "big"))
+        used += 2 + mark % BEGUN
+    return queue, used
+
+
+def some_start(numbers):
+    """Anywhere; or near the end, so that it parts the first mark, comes behind it, or parts the first packets."""
+    return [numbers.below(QUEUE), QUEUE - 1, QUEUE - 2, QUEUE - 1 - numbers.below(9000)][numbers.below(4)]
 
 
 def whole_records(numbers, session):
-    for marks in WHOLE:
-        queue, used = with_marks(session.queue, marks)
-        session.sender = sender.Sender(used, numbers.below(2**16))
+    for marks, start in [(marks, start) for marks in WHOLE for start in [0, QUEUE - 1, some_start(numbers)]]:
+        queue, used = with_marks(session.queue, start, marks)
+        session.sender = sender.Sender(start, used, numbers.below(2**16))
         yield session.change(queue)
         if used < QUEUE:
             yield session.put(1 + numbers.below(min(9000, QUEUE - 2 - used)), numbers.next())
@@ -147,15 +158,15 @@ def judged_records():
     session = Session(numbers.next())
     yield session.begun()
     yield from whole_records(numbers, session)
-    for marks in NOT_WHOLE:
-        queue, used = with_marks(session.queue, marks)
+    for marks, start in [(marks, start) for marks in NOT_WHOLE for start in [0, some_start(numbers)]]:
+        queue, used = with_marks(session.queue, start, marks)
         yield session.change(queue)
-        yield from not_whole_records(numbers, session, sender.Sender(used, numbers.below(2**16)))
-    for marks, inside in [([7, 300], [8, 10, 11]), ([BEGUN + 40, 300], [41, 43])]:
-        queue, used = with_marks(session.queue, marks)
+        yield from not_whole_records(numbers, session, sender.Sender(start, used, numbers.below(2**16)))
+    for start, marks, inside in [(0, [7, 300], [8, 10, 11]), (QUEUE - 20, [BEGUN + 40, 300], [41, 43])]:
+        queue, used = with_marks(session.queue, start, marks)
         yield session.change(queue)
         for count in counts_not_whole(used, inside):
-            yield from not_whole_records(numbers, session, sender.Sender(count, numbers.below(2**16)))
+            yield from not_whole_records(numbers, session, sender.Sender(start, count, numbers.below(2**16)))
 
 
 # ---------------------------------------------------------------------------------------------------------------------
@@ -178,7 +189,8 @@ class History:
     def __init__(self, numbers, lengths, turn):
         self.numbers = numbers
         self.lengths = lengths
-        self.session = Session(numbers.next(), [0, 65500, numbers.below(2**16)][turn % 3])
+        start = [0, QUEUE - 1, numbers.below(QUEUE)][turn % 3]
+        self.session = Session(numbers.next(), start, [0, 65500, numbers.below(2**16)][turn // 3 % 3])
         self.taps = [BENCH_TAPS, numbers.taps(), [1, ALL_TAPS][turn % 2]]
         self.eager = [30, 45, 60, 75][turn % 4]
         self.small = [10, 20, 60][turn % 3]
@@ -205,10 +217,17 @@ class History:
         taps = self.taps[self.numbers.below(3)]
         return self.session.next_frame(taps, self.header(), room=FRAME + self.numbers.below(20), full=full)
 
+    def no_state(self):
+        """The session's own state, but with too many bytes used, or with a start past the end of the ring; some of the
+        starts are the same place again, counted round."""
+        own = self.session.sender
+        used = [own._replace(used=count) for count in [QUEUE + 1, own.used + 2**32, 2**64 - 1]]
+        starts = [own._replace(start=start) for start in [QUEUE, own.start + QUEUE, own.start + 2**32, 2**64 - 1]]
+        return (used + starts)[self.numbers.below(7)]
+
     def refused_put(self):
         """One thing wrong or several; the lowest number counts."""
-        used = self.session.sender.used
-        other = sender.Sender([QUEUE + 1, 2**64 - 1, used + 2**32][self.numbers.below(3)], 7)
+        other = self.no_state()
         lent = [QUEUE - 1, QUEUE + 1, 0, QUEUE + 12][self.numbers.below(4)]
         length = [0, 9001, 9002, 10000][self.numbers.below(4)]
         fitting = 1 + self.numbers.below(9000)
@@ -225,7 +244,7 @@ class History:
     def refused_frame(self, wrong):
         taps = [0, 2 * self.numbers.below(2**24), 2**25 + self.taps[1], 2**32 - 1][self.numbers.below(4)]
         sizes = [{"lent": QUEUE - 1}, {"lent": QUEUE + 1}, {"room": FRAME - 1}, {"room": 0}][self.numbers.below(4)]
-        other = sender.Sender([QUEUE + 1, 2**64 - 1][self.numbers.below(2)], 7)
+        other = self.no_state()
         against = wrong[self.numbers.below(len(wrong))]
         header = [self.header(), against][self.numbers.below(2)]
         case = self.numbers.below(5)

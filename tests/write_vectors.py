@@ -17,13 +17,14 @@ import coder
 import frame_vectors
 import header_vectors
 import receiver_vectors
+import ring_vectors
 import sender_vectors
 
 VECTORS = Path(__file__).resolve().parent.parent / "crates" / "trials" / "stdin"
 
 
 def vectors():
-    files = [code_vectors, header_vectors, frame_vectors, sender_vectors, receiver_vectors]
+    files = [code_vectors, header_vectors, frame_vectors, sender_vectors, ring_vectors, receiver_vectors]
     records = [one for file in files for group in file.GROUPS for one in group()]
     return records, len(records).to_bytes(4, "big") + b"".join(records)
 

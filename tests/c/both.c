@@ -22,6 +22,11 @@ uint8_t *bytes_of(lent *buffer)
     return buffer->library + AROUND;
 }
 
+uint8_t *model_bytes_of(lent *buffer)
+{
+    return buffer->model + AROUND;
+}
+
 void set_bytes(lent *buffer, size_t at, const void *from, size_t length)
 {
     memcpy(buffer->library + AROUND + at, from, length);
@@ -33,13 +38,19 @@ void set_byte(lent *buffer, size_t at, uint8_t value)
     set_bytes(buffer, at, &value, 1);
 }
 
+static uint64_t chance_state = UINT64_C(0x9E3779B97F4A7C15);
+
+void begin_chance(uint64_t seed)
+{
+    chance_state = seed;
+}
+
 uint64_t chance(void)
 {
-    static uint64_t state = UINT64_C(0x9E3779B97F4A7C15);
-    state ^= state << 13;
-    state ^= state >> 7;
-    state ^= state << 17;
-    return state;
+    chance_state ^= chance_state << 13;
+    chance_state ^= chance_state >> 7;
+    chance_state ^= chance_state << 17;
+    return chance_state;
 }
 
 size_t below(size_t bound)
@@ -66,17 +77,12 @@ static uint8_t *to_library(lent *buffer, size_t length)
     return length ? buffer->library + AROUND : NULL;
 }
 
-static uint8_t *to_model(lent *buffer)
-{
-    return buffer->model + AROUND;
-}
-
-static void compare_bytes(const lent *buffer, const char *what)
+void compare_bytes(const lent *buffer, const char *what)
 {
     expect(memcmp(buffer->library, buffer->model, sizeof buffer->library) == 0, what);
 }
 
-static uint8_t ended(uint8_t refusal)
+uint8_t ended(uint8_t refusal)
 {
     calls++;
     if (refusal <= 16)
@@ -86,9 +92,9 @@ static uint8_t ended(uint8_t refusal)
 
 /* ---- answers, number by number: what stands between a struct's numbers is no part of it */
 
-static int same_sender(taqwelim_sender a, taqwelim_sender b)
+int same_sender(taqwelim_sender a, taqwelim_sender b)
 {
-    return a.used == b.used && a.next == b.next;
+    return a.start == b.start && a.used == b.used && a.next == b.next;
 }
 
 static int same_receiver(taqwelim_receiver a, taqwelim_receiver b)
@@ -109,7 +115,7 @@ static int same_header(taqwelim_header a, taqwelim_header b)
 uint8_t both_put(size_t queue_length, taqwelim_sender *sender, size_t packet_length)
 {
     taqwelim_put_answer a = taqwelim_put(to_library(&queue, queue_length), queue_length, *sender, to_library(&packet, packet_length), packet_length);
-    taqwelim_put_answer b = model_put(to_model(&queue), queue_length, *sender, to_model(&packet), packet_length);
+    taqwelim_put_answer b = model_put(model_bytes_of(&queue), queue_length, *sender, model_bytes_of(&packet), packet_length);
     expect(a.refusal == b.refusal && same_sender(a.sender, b.sender), "put's answer");
     compare_bytes(&queue, "the queue after put");
     compare_bytes(&packet, "the packet after put");
@@ -121,7 +127,7 @@ uint8_t both_next(uint32_t taps, taqwelim_fields fields, taqwelim_sender *sender
 {
     taqwelim_next_answer a =
         taqwelim_next_frame(taps, fields, *sender, to_library(&queue, queue_length), queue_length, to_library(&out, out_length), out_length);
-    taqwelim_next_answer b = model_next_frame(taps, fields, *sender, to_model(&queue), queue_length, to_model(&out), out_length);
+    taqwelim_next_answer b = model_next_frame(taps, fields, *sender, model_bytes_of(&queue), queue_length, model_bytes_of(&out), out_length);
     expect(a.refusal == b.refusal && a.kind == b.kind && same_sender(a.sender, b.sender), "next_frame's answer");
     compare_bytes(&queue, "the queue after next_frame");
     compare_bytes(&out, "the frame of next_frame");
@@ -134,7 +140,7 @@ uint8_t both_receive(uint32_t taps, size_t frame_length, taqwelim_receiver *rece
     taqwelim_receive_answer a = taqwelim_receive(taps, to_library(&frame, frame_length), frame_length, *receiver, to_library(&hold, hold_length), hold_length,
                                                  to_library(&list, list_length), list_length);
     taqwelim_receive_answer b =
-        model_receive(taps, to_model(&frame), frame_length, *receiver, to_model(&hold), hold_length, to_model(&list), list_length);
+        model_receive(taps, model_bytes_of(&frame), frame_length, *receiver, model_bytes_of(&hold), hold_length, model_bytes_of(&list), list_length);
     expect(a.refusal == b.refusal && same_receiver(a.receiver, b.receiver), "receive's state and refusal");
     expect(a.missed == b.missed && a.packets == b.packets && a.listed == b.listed, "receive's counts");
     expect(same_header(a.header, b.header), "receive's header");
@@ -149,7 +155,7 @@ uint8_t both_receive(uint32_t taps, size_t frame_length, taqwelim_receiver *rece
 uint8_t both_entry(size_t list_length, size_t position, taqwelim_entry_answer *answer)
 {
     taqwelim_entry_answer a = taqwelim_entry(to_library(&list, list_length), list_length, position);
-    taqwelim_entry_answer b = model_entry(to_model(&list), list_length, position);
+    taqwelim_entry_answer b = model_entry(model_bytes_of(&list), list_length, position);
     taqwelim_place place = taqwelim_packet(to_library(&list, list_length), list_length, position);
     expect(a.refusal == b.refusal && a.found == b.found && a.start == b.start && a.length == b.length && a.next == b.next, "entry's answer");
     expect(place.start == b.start && place.length == b.length, "packet's place");
@@ -161,7 +167,7 @@ uint8_t both_entry(size_t list_length, size_t position, taqwelim_entry_answer *a
 uint8_t both_code(taqwelim_header header, size_t length)
 {
     uint8_t a = taqwelim_code_header(header, to_library(&header_bytes, length), length);
-    uint8_t b = model_code_header(header, to_model(&header_bytes), length);
+    uint8_t b = model_code_header(header, model_bytes_of(&header_bytes), length);
     expect(a == b, "code_header's answer");
     compare_bytes(&header_bytes, "the bytes of code_header");
     return ended(a);
@@ -170,7 +176,7 @@ uint8_t both_code(taqwelim_header header, size_t length)
 uint8_t both_read(size_t length, taqwelim_header *header)
 {
     taqwelim_read_answer a = taqwelim_read_header(to_library(&header_bytes, length), length);
-    taqwelim_read_answer b = model_read_header(to_model(&header_bytes), length);
+    taqwelim_read_answer b = model_read_header(model_bytes_of(&header_bytes), length);
     expect(a.refusal == b.refusal, "read_header's refusal");
     expect(same_header(a.header, b.header), "read_header's header");
     compare_bytes(&header_bytes, "the bytes after read_header");

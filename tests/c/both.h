@@ -19,14 +19,19 @@ extern lent queue, packet, out, frame, hold, list, header_bytes;
 extern unsigned long calls, comparisons, differences, given[17]; /* given: calls that ended with each number */
 
 void expect(int same, const char *what);
+uint8_t ended(uint8_t refusal);                                   /* counts a call; gives the number back */
+int same_sender(taqwelim_sender a, taqwelim_sender b);
 
 /* ---- what is lent */
 uint8_t *bytes_of(lent *buffer);                                  /* the library's, to look at */
+uint8_t *model_bytes_of(lent *buffer);
+void compare_bytes(const lent *buffer, const char *what);         /* every byte of both, and those around them */
 void set_bytes(lent *buffer, size_t at, const void *from, size_t length);
 void set_byte(lent *buffer, size_t at, uint8_t value);
 void fill_all(void);                                              /* with bytes at random, and around them */
 
 /* ---- bytes and numbers at random, the same in each run */
+void begin_chance(uint64_t seed);
 uint64_t chance(void);
 size_t below(size_t bound);                                       /* 0 to bound - 1 */
 
@@ -43,5 +48,6 @@ void try_numbers(void);
 void try_refusals(void);
 void try_session(unsigned long frames);
 void try_chance(unsigned long rounds);
+void try_ring(unsigned long frames);
 
 #endif

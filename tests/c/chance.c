@@ -80,13 +80,18 @@ static void break_sender(void)
         sender.used = (size_t)chance();
         break;
     case 2:
-        change_a_byte(&queue, 40);
+        sender.start = below(2) ? below(33000) : (size_t)chance();
         break;
     case 3:
-        sender.used = 0;
+        set_byte(&queue, (sender.start + below(40)) % TAQWELIM_QUEUE_SIZE, (uint8_t)chance());
         break;
     case 4:
         sender.next = (uint16_t)chance();
+        break;
+    case 5:
+    case 6: /* begun anew, anywhere in the ring or at its last byte */
+        sender.used = 0;
+        sender.start = below(3) ? below(TAQWELIM_QUEUE_SIZE) : TAQWELIM_QUEUE_SIZE - 1;
         break;
     default:
         break;

@@ -1,29 +1,29 @@
-/* Runs the whole base through include/taqwelim.h beside the model. Prints what was tried and how much differs; the exit status is 1 where anything does. */
+/* Runs every call through include/taqwelim.h beside the model: test [FRAMES], the frames through the ring, 100,000 where none are given. Prints what was tried
+ * and how much differs; the exit status is 1 where anything does. */
 #include "both.h"
 
 #include <stdio.h>
+#include <stdlib.h>
 
-int main(void)
+static void say(const char *name)
 {
-    static const char *const names[] = {"numbers to try", "refusals", "session", "chance"};
-    unsigned long before = 0;
-    for (int i = 0; i < 4; i++) {
-        switch (i) {
-        case 0:
-            try_numbers();
-            break;
-        case 1:
-            try_refusals();
-            break;
-        case 2:
-            try_session(5000);
-            break;
-        default:
-            try_chance(4000);
-        }
-        printf("%s: %lu calls\n", names[i], calls - before);
-        before = calls;
-    }
+    static unsigned long before = 0;
+    printf("%s: %lu calls\n", name, calls - before);
+    before = calls;
+}
+
+int main(int argc, char **argv)
+{
+    try_numbers();
+    say("numbers to try");
+    try_refusals();
+    say("refusals");
+    try_session(5000);
+    say("session");
+    try_chance(4000);
+    say("chance");
+    try_ring(argc > 1 ? strtoul(argv[1], NULL, 10) : 100000);
+    say("ring");
     printf("calls that ended with each number, 0 to 16:");
     for (int number = 0; number <= 16; number++) {
         printf(" %lu", given[number]);

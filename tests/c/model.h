@@ -30,6 +30,11 @@ void model_frame(uint32_t taps, const uint8_t *header, const uint8_t *data, uint
 void model_data(const uint8_t *area, uint8_t *data);
 uint8_t model_open(uint32_t taps, const uint8_t *frame, uint8_t *header, uint8_t *area);
 
+/* ---- parts of the calls (model_link.c) */
+void model_put_mark(uint8_t *bytes, unsigned mark);
+size_t model_fill(uint8_t *area, uint8_t *laid, size_t used);
+void model_write_round(uint8_t *queue, size_t start, const uint8_t *bytes, size_t length);
+
 /* ---- the calls (model_link.c) */
 taqwelim_put_answer model_put(uint8_t *queue, size_t queue_length, taqwelim_sender sender, const uint8_t *packet, size_t packet_length);
 taqwelim_next_answer model_next_frame(uint32_t taps, taqwelim_fields fields, taqwelim_sender sender, uint8_t *queue, size_t queue_length, uint8_t *out,

@@ -28,7 +28,7 @@ uint32_t model_crc_32(const uint8_t *bytes, size_t length)
 
 /* ---- the field with x^8 + x^7 + x^2 + x + 1 */
 
-static uint8_t powers[255];
+static uint8_t powers[510]; /* twice over, so that the sum of two exponents has its place */
 static int exponents[256];
 
 static void make_powers(void)
@@ -37,7 +37,7 @@ static void make_powers(void)
     if (powers[0])
         return;
     for (int i = 0; i < 255; i++) {
-        powers[i] = (uint8_t)x;
+        powers[i] = powers[i + 255] = (uint8_t)x;
         exponents[x] = i;
         x <<= 1;
         if (x & 0x100)
@@ -53,7 +53,7 @@ uint8_t model_power(unsigned exponent)
 
 static uint8_t product(uint8_t a, uint8_t b)
 {
-    return a && b ? powers[(exponents[a] + exponents[b]) % 255] : 0;
+    return a && b ? powers[exponents[a] + exponents[b]] : 0;
 }
 
 /* ---- the code of 255 bytes with roots 2^(11 j), j from 120 to 135 */

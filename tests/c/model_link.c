@@ -1,4 +1,4 @@
-/* The model's sending and receiving (paper 01, "Packing, the bench's own"). */
+/* The model's sending and receiving (paper 01, "Packing, the bench's own"; paper 02, M-105). */
 #include "model.h"
 
 #include <string.h>
@@ -8,23 +8,21 @@ static unsigned mark_at(const uint8_t *bytes)
     return (unsigned)bytes[0] << 8 | bytes[1];
 }
 
-static void put_mark(uint8_t *bytes, unsigned mark)
+void model_put_mark(uint8_t *bytes, unsigned mark)
 {
     bytes[0] = (uint8_t)(mark >> 8);
     bytes[1] = (uint8_t)mark;
 }
 
-/* ---- the queue */
+/* ---- what waits, laid out from byte 0 on: per packet a mark, then its unsent bytes */
 
-static int is_whole(const uint8_t *queue, size_t used)
+static int is_whole(const uint8_t *laid, size_t used)
 {
     size_t at = 0;
-    if (used > TAQWELIM_QUEUE_SIZE)
-        return 0;
     while (at < used) {
         if (used - at < 2)
             return 0;
-        unsigned mark = mark_at(queue + at), begun = mark >> 15, length = mark & 0x7FFF;
+        unsigned mark = mark_at(laid + at), begun = mark >> 15, length = mark & 0x7FFF;
         if ((begun && at > 0) || length < 1 || length > (begun ? 8999u : 9000u) || length > used - at - 2)
             return 0;
         at += 2 + length;
@@ -32,12 +30,58 @@ static int is_whole(const uint8_t *queue, size_t used)
     return 1;
 }
 
+/* Fills the area, and moves what remains to byte 0; how many bytes that is. */
+size_t model_fill(uint8_t *area, uint8_t *laid, size_t used)
+{
+    static uint8_t rest[TAQWELIM_QUEUE_SIZE];
+    size_t to = 0, from = 0, left = 0;
+    memset(area, 0, AREA);
+    while (from < used && AREA - to >= 3) {
+        unsigned mark = mark_at(laid + from), begun = mark >> 15, length = mark & 0x7FFF;
+        unsigned taken = length < AREA - to - 2 ? length : (unsigned)(AREA - to - 2);
+        model_put_mark(area + to, (begun ? 0 : RECORD_FIRST) | (taken == length ? RECORD_LAST : 0) | taken);
+        memcpy(area + to + 2, laid + from + 2, taken);
+        to += 2 + taken;
+        from += 2 + taken;
+        if (taken < length) {
+            model_put_mark(rest, 0x8000 | (length - taken));
+            memcpy(rest + 2, laid + from, length - taken);
+            left = 2 + length - taken;
+            from += length - taken;
+        }
+    }
+    memcpy(rest + left, laid + from, used - from);
+    left += used - from;
+    memcpy(laid, rest, left);
+    return left;
+}
+
+/* ---- the queue, a ring: waiting byte i stands at start + i, modulo its size */
+
+void model_write_round(uint8_t *queue, size_t start, const uint8_t *bytes, size_t length)
+{
+    for (size_t i = 0; i < length; i++)
+        queue[(start + i) % TAQWELIM_QUEUE_SIZE] = bytes[i];
+}
+
+/* Lays out what waits in the ring; whether it is whole. */
+static int read_waiting(const uint8_t *queue, taqwelim_sender sender, uint8_t *laid)
+{
+    if (sender.start >= TAQWELIM_QUEUE_SIZE || sender.used > TAQWELIM_QUEUE_SIZE)
+        return 0;
+    for (size_t i = 0; i < sender.used; i++)
+        laid[i] = queue[(sender.start + i) % TAQWELIM_QUEUE_SIZE];
+    return is_whole(laid, sender.used);
+}
+
 taqwelim_put_answer model_put(uint8_t *queue, size_t queue_length, taqwelim_sender sender, const uint8_t *packet, size_t packet_length)
 {
+    static uint8_t laid[TAQWELIM_QUEUE_SIZE];
     taqwelim_put_answer answer = {sender, 0};
+    uint8_t mark[2];
     if (queue_length != TAQWELIM_QUEUE_SIZE)
         answer.refusal = 2;
-    else if (!is_whole(queue, sender.used))
+    else if (!read_waiting(queue, sender, laid))
         answer.refusal = 3;
     else if (packet_length < 1 || packet_length > TAQWELIM_PACKET_MOST)
         answer.refusal = 4;
@@ -45,41 +89,17 @@ taqwelim_put_answer model_put(uint8_t *queue, size_t queue_length, taqwelim_send
         answer.refusal = 5;
     if (answer.refusal)
         return answer;
-    put_mark(queue + sender.used, (unsigned)packet_length);
-    memcpy(queue + sender.used + 2, packet, packet_length);
+    model_put_mark(mark, (unsigned)packet_length);
+    model_write_round(queue, sender.start + sender.used, mark, 2);
+    model_write_round(queue, sender.start + sender.used + 2, packet, packet_length);
     answer.sender.used += 2 + packet_length;
     return answer;
-}
-
-/* Fills the area off a whole queue, and lays out at its front what remains; the new used count. */
-static size_t fill(uint8_t *area, uint8_t *queue, size_t used)
-{
-    static uint8_t rest[TAQWELIM_QUEUE_SIZE];
-    size_t to = 0, from = 0, left = 0;
-    memset(area, 0, AREA);
-    while (from < used && AREA - to >= 3) {
-        unsigned mark = mark_at(queue + from), begun = mark >> 15, length = mark & 0x7FFF;
-        unsigned taken = length < AREA - to - 2 ? length : (unsigned)(AREA - to - 2);
-        put_mark(area + to, (begun ? 0 : RECORD_FIRST) | (taken == length ? RECORD_LAST : 0) | taken);
-        memcpy(area + to + 2, queue + from + 2, taken);
-        to += 2 + taken;
-        from += 2 + taken;
-        if (taken < length) {
-            put_mark(rest, 0x8000 | (length - taken));
-            memcpy(rest + 2, queue + from, length - taken);
-            left = 2 + length - taken;
-            from += length - taken;
-        }
-    }
-    memcpy(rest + left, queue + from, used - from);
-    left += used - from;
-    memcpy(queue, rest, left);
-    return left;
 }
 
 taqwelim_next_answer model_next_frame(uint32_t taps, taqwelim_fields fields, taqwelim_sender sender, uint8_t *queue, size_t queue_length, uint8_t *out,
                                       size_t out_length)
 {
+    static uint8_t laid[TAQWELIM_QUEUE_SIZE];
     taqwelim_next_answer answer = {sender, 0, 0};
     taqwelim_header header = {fields, sender.next, TAQWELIM_IDLE};
     uint8_t area[AREA], data[DATA], bytes[16];
@@ -87,7 +107,7 @@ taqwelim_next_answer model_next_frame(uint32_t taps, taqwelim_fields fields, taq
         answer.refusal = 1;
     else if (queue_length != TAQWELIM_QUEUE_SIZE || out_length < TAQWELIM_FRAME_SIZE)
         answer.refusal = 2;
-    else if (!is_whole(queue, sender.used))
+    else if (!read_waiting(queue, sender, laid))
         answer.refusal = 3;
     else if (!model_fields_fit(fields))
         answer.refusal = 6;
@@ -95,7 +115,10 @@ taqwelim_next_answer model_next_frame(uint32_t taps, taqwelim_fields fields, taq
         return answer;
     if (sender.used > 0)
         header.kind = TAQWELIM_DATA;
-    answer.sender.used = fill(area, queue, sender.used);
+    answer.sender.used = model_fill(area, laid, sender.used);
+    answer.sender.start = (sender.start + sender.used - answer.sender.used) % TAQWELIM_QUEUE_SIZE;
+    /* what remains is written where it stood: only the mark of a packet that was cut is new */
+    model_write_round(queue, answer.sender.start, laid, answer.sender.used);
     answer.sender.next = (uint16_t)(sender.next + 1);
     answer.kind = header.kind;
     model_header_bytes(header, bytes);
@@ -156,7 +179,7 @@ static void join(const uint8_t *area, taqwelim_receive_answer *answer, uint8_t *
             continue;
         if (mark & RECORD_LAST) {
             uint8_t *entry = list + answer->listed;
-            put_mark(entry, (unsigned)held + length);
+            model_put_mark(entry, (unsigned)held + length);
             memcpy(entry + 2, hold, held);
             memcpy(entry + 2 + held, bytes, length);
             answer->listed += 2 + held + length;

@@ -88,9 +88,10 @@ static int zeros_from(const uint8_t *area, size_t at)
     return at == AREA;
 }
 
-static void packing(void)
+/* The packing's numbers, wherever the ring begins. */
+static void packing(size_t start)
 {
-    taqwelim_sender s = taqwelim_fresh_sender();
+    taqwelim_sender s = {start, 0, 0};
     const uint8_t *area;
     set_byte(&packet, 0, 0xAA);
     put_all(&s, (size_t[]){1, 0});
@@ -115,11 +116,12 @@ static void packing(void)
     area = next_area(&s);
     expect(mark(area, 1906) == 0 && s.used == 3, "1,904 bytes, then 1");
     expect(mark(next_area(&s), 0) == 0xC001 && s.used == 0, "the 1 that waited");
+    expect(s.start == (start + 18548) % TAQWELIM_QUEUE_SIZE, "the start moved by all that was put");
 }
 
-static void filling(void)
+static void filling(size_t start)
 {
-    taqwelim_sender s = taqwelim_fresh_sender(), full;
+    taqwelim_sender s = {start, 0, 0}, full;
     put_all(&s, (size_t[]){9000, 9000, 9000, 0});
     expect(s.used == 27006, "three packets of 9,000 use 27,006");
     expect(both_put(TAQWELIM_QUEUE_SIZE, &s, 5761) == 5 && s.used == 27006, "a fourth of 5,761");
@@ -133,7 +135,7 @@ static void receiving(void)
     taqwelim_receiver r = taqwelim_fresh_receiver();
     taqwelim_receive_answer answer;
     taqwelim_entry_answer entry;
-    expect(s.used == 0 && s.next == 0 && r.held == 0 && r.expects == 0 && r.expected == 0, "fresh states are zeros");
+    expect(s.start == 0 && s.used == 0 && s.next == 0 && r.held == 0 && r.expects == 0 && r.expected == 0, "fresh states are zeros");
     next_area(&s);
     set_bytes(&frame, 0, bytes_of(&out), TAQWELIM_FRAME_SIZE);
     expect(both_receive(taps, 2081, &r, 9000, 10907, &answer) == 0, "the example's first frame");
@@ -157,11 +159,14 @@ static void receiving(void)
 
 void try_numbers(void)
 {
+    static const size_t starts[] = {0, 1, 20001, 30861, 32767};
     fill_all();
     codes();
     headers();
     scrambler();
-    packing();
-    filling();
+    for (size_t i = 0; i < sizeof starts / sizeof starts[0]; i++) {
+        packing(starts[i]);
+        filling(starts[i]);
+    }
     receiving();
 }

@@ -29,6 +29,13 @@ static taqwelim_fields good_fields(void)
     return fields;
 }
 
+/* A mark in the ring, whose end may part it. */
+static void set_mark(size_t at, unsigned mark)
+{
+    set_byte(&queue, at % 32768, (uint8_t)(mark >> 8));
+    set_byte(&queue, (at + 1) % 32768, (uint8_t)mark);
+}
+
 /* ---- put: 2, 3, 4, 5 */
 
 static void put_refused(uint8_t wanted, size_t queue_length, taqwelim_sender sender, size_t length)
@@ -36,62 +43,76 @@ static void put_refused(uint8_t wanted, size_t queue_length, taqwelim_sender sen
     taqwelim_sender after = sender;
     keep();
     refused(both_put(queue_length, &after, length), wanted, "put is refused");
-    expect(after.used == sender.used && after.next == sender.next, "put's state after a refusal");
+    expect(same_sender(after, sender), "put's state after a refusal");
+}
+
+/* Packets that wait from a start on: what 3, 4 and 5 are judged by. */
+static void put_waiting(size_t start)
+{
+    taqwelim_sender full = {start, 32768, 3};
+    for (size_t i = 0; i < 4; i++)
+        set_mark(start + i * 8192, 0x1FFE); /* four packets of 8,190 */
+    put_refused(4, 32768, full, 9001);
+    put_refused(5, 32768, full, 1);
+    put_refused(3, 32768, (taqwelim_sender){start + 32768, 32768, 3}, 1); /* the same place, counted round */
+    set_mark(start + 8192, 0x9FFE); /* begun, and not at the front */
+    put_refused(3, 32768, full, 1);
+    set_mark(start, 9001);
+    put_refused(3, 32768, (taqwelim_sender){start, 9003, 0}, 1);
+    set_mark(start, 0x8000 | 9000); /* of a begun packet */
+    put_refused(3, 32768, (taqwelim_sender){start, 9002, 0}, 1);
 }
 
 static void put(void)
 {
-    taqwelim_sender fresh = taqwelim_fresh_sender(), full = {32768, 3}, past = {32769, 0}, most = {SIZE_MAX, 9}, odd = {1, 0};
+    taqwelim_sender fresh = taqwelim_fresh_sender(), past = {0, 32769, 0}, most = {SIZE_MAX, SIZE_MAX, 9}, odd = {0, 1, 0};
     put_refused(2, 0, most, 0);
     put_refused(2, 32767, fresh, 0);
     put_refused(2, 32769, fresh, 1);
     put_refused(3, 32768, past, 0);
     put_refused(3, 32768, most, 9001);
     put_refused(3, 32768, odd, 1);
+    put_refused(3, 32768, (taqwelim_sender){32768, 0, 0}, 1);
+    put_refused(3, 32768, (taqwelim_sender){SIZE_MAX, 0, 0}, 0);
     put_refused(4, 32768, fresh, 0);
-    put_refused(4, 32768, fresh, 9001);
-    for (int i = 0; i < 4; i++)
-        set_bytes(&queue, (size_t)i * 8192, (uint8_t[]){0x1F, 0xFE}, 2); /* four packets of 8,190 */
-    put_refused(4, 32768, full, 9001);
-    put_refused(5, 32768, full, 1);
-    set_byte(&queue, 8192, 0x9F); /* begun, and not at the front */
-    put_refused(3, 32768, full, 1);
-    set_byte(&queue, 8192, 0x1F);
-    set_bytes(&queue, 0, (uint8_t[]){0x23, 0x29}, 2); /* 9,001 bytes */
-    put_refused(3, 32768, (taqwelim_sender){9003, 0}, 1);
-    set_bytes(&queue, 0, (uint8_t[]){0xA3, 0x28}, 2); /* 9,000 of a begun packet */
-    put_refused(3, 32768, (taqwelim_sender){9002, 0}, 1);
+    put_refused(4, 32768, (taqwelim_sender){32767, 0, 0}, 9001);
+    put_waiting(0);
+    put_waiting(20001);
+    put_waiting(32767);
 }
 
 /* ---- next_frame: 1, 2, 3, 6 */
 
-static void next_refused(uint8_t wanted, uint32_t with, taqwelim_fields fields, size_t used, size_t queue_length, size_t out_length)
+static void next_refused(uint8_t wanted, uint32_t with, taqwelim_fields fields, taqwelim_sender sender, size_t queue_length, size_t out_length)
 {
-    taqwelim_sender sender = {used, 4660}, after = sender;
+    taqwelim_sender after = sender;
     keep();
     refused(both_next(with, fields, &after, queue_length, out_length), wanted, "next_frame is refused");
-    expect(after.used == sender.used && after.next == sender.next, "next_frame's state after a refusal");
+    expect(same_sender(after, sender), "next_frame's state after a refusal");
 }
 
 static void next(void)
 {
     taqwelim_fields good = good_fields(), bad = good;
+    taqwelim_sender empty = {32767, 0, 4660}, most = {SIZE_MAX, SIZE_MAX, 4660};
     bad.seconds = 64;
-    next_refused(1, 8, bad, SIZE_MAX, 0, 0);
-    next_refused(1, UINT32_C(1) << 25 | 1, good, 0, 32768, 2081);
-    next_refused(1, UINT32_MAX, good, 0, 32768, 2081);
-    next_refused(2, taps, bad, SIZE_MAX, 32768, 2080);
-    next_refused(2, taps, bad, 0, 32769, 2081);
-    next_refused(2, taps, good, 0, 0, 0);
-    next_refused(3, taps, bad, 32769, 32768, 2081);
-    next_refused(6, taps, bad, 0, 32768, 2081);
+    next_refused(1, 8, bad, most, 0, 0);
+    next_refused(1, UINT32_C(1) << 25 | 1, good, empty, 32768, 2081);
+    next_refused(1, UINT32_MAX, good, empty, 32768, 2081);
+    next_refused(2, taps, bad, most, 32768, 2080);
+    next_refused(2, taps, bad, empty, 32769, 2081);
+    next_refused(2, taps, good, empty, 0, 0);
+    next_refused(3, taps, bad, (taqwelim_sender){0, 32769, 4660}, 32768, 2081);
+    next_refused(3, taps, bad, (taqwelim_sender){32768, 0, 4660}, 32768, 2081);
+    next_refused(3, taps, good, (taqwelim_sender){SIZE_MAX, 0, 4660}, 32768, 2081);
+    next_refused(6, taps, bad, empty, 32768, 2081);
 }
 
 /* Every field that C can get wrong, in a frame and in a bare header: 6, and nothing is undefined. */
 static void field_refused(taqwelim_fields fields)
 {
     taqwelim_header header = {fields, 9, TAQWELIM_DATA};
-    next_refused(6, taps, fields, 0, 32768, 2081);
+    next_refused(6, taps, fields, taqwelim_fresh_sender(), 32768, 2081);
     keep();
     refused(both_code(header, 16), 6, "code_header is refused");
     refused(both_code(header, 15), 2, "code_header is refused for its length first");

@@ -1,6 +1,6 @@
-"""Packets as records in a DATA area, and packets waiting in the lent queue.
+"""Packets as records in a DATA area, and packets waiting in the lent queue, a ring.
 
-"01" is the scope paper, "R" and a number a point of READINGS.
+"01" is the scope paper, "02" the paper of change requests, "R" and a number a point of READINGS.
 """
 
 import random
@@ -75,32 +75,51 @@ def fill(waiting):
     return area + bytes(codes.AREA - len(area)), waiting
 
 
-# The queue (01, "Queue")
+# The queue (01, "Queue"; 02, M-105)
 
 
-def waiting_of(queue, used):
-    """The packets in the used bytes of the queue, as (begun, unsent bytes), or None where it is not whole (R16)."""
-    if not 0 <= used <= QUEUE:
-        return None
+def read_round(queue, start, count):
+    """So many bytes of the ring from a start on: behind its last byte comes its first."""
+    return bytes(queue[(start + i) % len(queue)] for i in range(count))
+
+
+def written_round(queue, start, added):
+    """The ring with these bytes from a start on; every other byte keeps its value."""
+    after = bytearray(queue)
+    for i, byte in enumerate(added):
+        after[(start + i) % len(queue)] = byte
+    return bytes(after)
+
+
+def waiting_of(laid):
+    """The packets laid out in these bytes, as (begun, unsent bytes), or None where none are laid out so (R16)."""
     waiting = []
     place = 0
-    while place < used:
-        if used - place < MARK:
+    while place < len(laid):
+        if len(laid) - place < MARK:
             return None
-        number = int.from_bytes(queue[place:place + MARK], "big")
+        number = int.from_bytes(laid[place:place + MARK], "big")
         begun = number & BEGUN != 0
         length = number % BEGUN
         behind = place + MARK + length
         longest = PACKET - 1 if begun else PACKET
-        if (begun and place != 0) or not 1 <= length <= longest or behind > used:
+        if (begun and place != 0) or not 1 <= length <= longest or behind > len(laid):
             return None
-        waiting.append((begun, bytes(queue[place + MARK:behind])))
+        waiting.append((begun, laid[place + MARK:behind]))
         place = behind
     return waiting
 
 
+def waiting_in(queue, start, used):
+    """The packets in the used bytes of the ring, or None where it is not whole (refusal 3)."""
+    # Both numbers are judged before a place is made of them: a start past the end would otherwise be a place again.
+    if not 0 <= start < QUEUE or not 0 <= used <= QUEUE:
+        return None
+    return waiting_of(read_round(queue, start, used))
+
+
 def layout(waiting):
-    """The bytes of the queue from byte 0 that say what waits."""
+    """The bytes that say what waits: of each packet its mark, then what is unsent of it."""
     laid = b""
     for begun, unsent in waiting:
         laid += ((BEGUN if begun else 0) + len(unsent)).to_bytes(MARK, "big") + unsent
@@ -180,38 +199,53 @@ def rule_cases():
     return cases
 
 
-def queue_of(text):
-    """A queue that begins with these bytes, the bytes behind them no marks at all."""
-    return bytes.fromhex(text).ljust(QUEUE, b"\xFF")
+NO_MARKS = b"\xFF" * QUEUE
 
 
-def queue_cases():
-    """Queues whole and not whole (R16)."""
-    not_whole = {
-        "used above 32,768": (bytes(QUEUE), QUEUE + 1),
-        "huge": (bytes(QUEUE), 2 ** 64 - 1),
-        "one byte": (queue_of("0001AA"), 1),
-        "a mark alone": (queue_of("0001AA"), 2),
-        "a byte behind": (queue_of("0001AA00"), 4),
-        "length 0": (queue_of("0000"), 2),
-        "9,001": (layout([(False, bytes(9001))]).ljust(QUEUE), 9003),
-        "9,000 begun": (layout([(True, bytes(9000))]).ljust(QUEUE), 9002),
-        "begun behind the front": (queue_of("0001AA8001BB"), 6),
-    }
+def queue_cases(start):
+    """Queues whole and not whole (R16) that begin at this place of the ring."""
+    begun_and_another = [(True, b"\xAA"), (False, b"\xBB\xCC")]
     longest = [(True, bytes(8999)), (False, bytes(9000)), (False, b"\xBB")]
-    cases = [(f"not whole: {what}", waiting_of(*given), None) for what, given in not_whole.items()]
-    cases += [
-        ("whole: empty", waiting_of(queue_of(""), 0), []),
-        ("whole: begun", waiting_of(queue_of("8001AA0002BBCC"), 7), [(True, b"\xAA"), (False, b"\xBB\xCC")]),
-        ("whole: longest", waiting_of(layout(longest).ljust(QUEUE), 18006), longest),
-        ("whole: full", waiting_of(layout(4 * [(False, bytes(8190))]), QUEUE), 4 * [(False, bytes(8190))]),
+    full = 4 * [(False, bytes(8190))]
+    # What is laid out from the start on, how many bytes are said to be used, and what waits then.
+    given = {
+        "used above 32,768": (b"", QUEUE + 1, None),
+        "huge": (b"", 2 ** 64 - 1, None),
+        "one byte": (b"\0\1\xAA", 1, None),
+        "a mark alone": (b"\0\1\xAA", 2, None),
+        "a byte behind": (b"\0\1\xAA\0", 4, None),
+        "length 0": (b"\0\0", 2, None),
+        "9,001": (layout([(False, bytes(9001))]), 9003, None),
+        "9,000 begun": (layout([(True, bytes(9000))]), 9002, None),
+        "begun behind the front": (layout([(False, b"\xAA"), (True, b"\xBB")]), 6, None),
+        "empty": (b"", 0, []),
+        "begun": (b"\x80\1\xAA\0\2\xBB\xCC", 7, begun_and_another),
+        "longest": (layout(longest), 18006, longest),
+        "full": (layout(full), QUEUE, full),
+    }
+    return [
+        (f"at {start}: {what}", waiting_in(written_round(NO_MARKS, start, laid), start, used), expected)
+        for what, (laid, used, expected) in given.items()
     ]
-    return cases
+
+
+def ring_cases():
+    """The ring's last byte, and behind it its first; starts that are none."""
+    ring = bytes([0, 1, 2, 3, 4])
+    return [
+        ("read over the end", read_round(ring, 3, 4), bytes([3, 4, 0, 1])),
+        ("read to the end", read_round(ring, 3, 2), bytes([3, 4])),
+        ("written over the end", written_round(ring, 4, b"\xAA\xBB"), bytes([0xBB, 1, 2, 3, 0xAA])),
+        ("written: nothing", written_round(ring, 4, b""), ring),
+        ("a start of 32,768, nothing used", waiting_in(NO_MARKS, QUEUE, 0), None),
+        ("a huge start", waiting_in(NO_MARKS, 2 ** 64 - 1, 0), None),
+    ]
 
 
 def own_trial():
     """Tries every number of 01 that concerns packing; gives how many."""
-    return codes.all_same(mark_cases() + rule_cases() + queue_cases())
+    queues = [case for start in [0, 20000, QUEUE - 2, QUEUE - 1] for case in queue_cases(start)]
+    return codes.all_same(mark_cases() + rule_cases() + queues + ring_cases())
 
 
 if __name__ == "__main__":

@@ -1,6 +1,6 @@
-"""The sending end: packets put into the lent queue, and one coded frame per call.
+"""The sending end: packets put into the lent queue, a ring, and one coded frame per call.
 
-"01" is the scope paper, "R" and a number a point of READINGS.
+"01" is the scope paper, "02" the paper of change requests, "R" and a number a point of READINGS.
 """
 
 from typing import NamedTuple
@@ -11,13 +11,19 @@ import packing
 
 
 class Sender(NamedTuple):
-    """The used bytes of the queue, and the TXFN of the next frame."""
+    """Where in the ring the used bytes begin, how many they are, and the TXFN of the next frame."""
 
+    start: int
     used: int
     next: int
 
 
-FRESH = Sender(0, 0)
+FRESH = Sender(0, 0, 0)
+
+
+def waiting(queue, sender):
+    """The packets that wait, as (begun, unsent bytes), or None where the queue is not whole with this state."""
+    return packing.waiting_in(queue, sender.start, sender.used)
 
 
 def put_refusals(queue, sender, packet):
@@ -25,7 +31,7 @@ def put_refusals(queue, sender, packet):
     refusals = []
     if len(queue) != packing.QUEUE:
         refusals.append(2)
-    elif packing.waiting_of(queue, sender.used) is None:
+    elif waiting(queue, sender) is None:
         refusals.append(3)
     if not 1 <= len(packet) <= packing.PACKET:
         refusals.append(4)
@@ -40,8 +46,8 @@ def put(queue, sender, packet):
     if refusals:
         return min(refusals), sender, bytes(queue)
     added = packing.layout([(False, bytes(packet))])
-    behind = sender.used + len(added)
-    return 0, sender._replace(used=behind), bytes(queue[:sender.used]) + added + bytes(queue[behind:])
+    after = sender._replace(used=sender.used + len(added))
+    return 0, after, packing.written_round(queue, sender.start + sender.used, added)
 
 
 def frame_refusals(taps, header, sender, queue, output):
@@ -51,7 +57,7 @@ def frame_refusals(taps, header, sender, queue, output):
         refusals.append(1)
     if len(queue) != packing.QUEUE or len(output) < frames.FRAME:
         refusals.append(2)
-    if len(queue) == packing.QUEUE and packing.waiting_of(queue, sender.used) is None:
+    if len(queue) == packing.QUEUE and waiting(queue, sender) is None:
         refusals.append(3)
     if not frames.may_be_sent(header):
         refusals.append(6)
@@ -66,12 +72,15 @@ def next_frame(taps, fields, sender, queue, output):
     if refusals:
         return min(refusals), sender, bytes(queue), bytes(output)
     # With nothing waiting, fill gives the zeros of an IDLE area and nothing moves.
-    area, rest = packing.fill(packing.waiting_of(queue, sender.used))
-    front = packing.layout(rest)
-    after = Sender(len(front), (sender.next + 1) % 65536)
+    area, rest = packing.fill(waiting(queue, sender))
+    remaining = packing.layout(rest)
+    # The start moves by what left the queue, also when that was all of it (02, M-105).
+    start = (sender.start + sender.used - len(remaining)) % packing.QUEUE
+    after = Sender(start, len(remaining), (sender.next + 1) % 65536)
     frame = frames.build(taps, header, area)
-    # R18: bytes from the new used count on keep the values they had.
-    return 0, after, front + bytes(queue[len(front):]), frame + bytes(output[len(frame):])
+    # What remains stands where it stood, so that its first mark alone is written: that of a packet that was cut is new.
+    queue_after = packing.written_round(queue, start, remaining[:packing.MARK])
+    return 0, after, queue_after, frame + bytes(output[len(frame):])
 
 
 # Trials
@@ -81,11 +90,12 @@ TAPS = 0b1001
 FIELDS = frames.Header(0, 0, 0, 0, 0, 0, 0, 0, frames.Message(frames.ABSENT, ()))
 EMPTY = bytes([0x5A]) * packing.QUEUE
 OUTPUT = bytes([0xA5]) * (frames.FRAME + 3)
+LAST = packing.QUEUE - 1  # the ring's last place
 
 
-def filled(lengths):
-    """State and queue after packets of these lengths, put one after the other."""
-    sender, queue = FRESH, EMPTY
+def filled(lengths, start=0):
+    """State and queue after packets of these lengths, put one after the other into a ring that is empty there."""
+    sender, queue = Sender(start, 0, 0), EMPTY
     for length in lengths:
         number, sender, queue = put(queue, sender, bytes([length % 251]) * length)
         codes.all_same([(f"a packet of {length} is taken", number, 0)])
@@ -97,23 +107,27 @@ def put_cases():
     three, queue = filled([9000, 9000, 9000])
     full, full_queue = filled([9000, 9000, 9000, 5760])
     spoiled = b"\0\0" + queue[2:]
+    past_the_end = Sender(packing.QUEUE, 0, 0)
     return [
-        ("three of 9,000", three, Sender(27006, 0)),
+        ("three of 9,000", three, Sender(0, 27006, 0)),
         ("a fourth of 5,760 fills it", full.used, packing.QUEUE),
         ("a fourth of 5,761", put(queue, three, bytes(5761)), (5, three, queue)),
         ("full, one byte", put(full_queue, full, b"\1"), (5, full, full_queue)),
         ("full, no byte", put(full_queue, full, b""), (4, full, full_queue)),
         ("9,001 bytes", put(EMPTY, FRESH, bytes(9001)), (4, FRESH, EMPTY)),
         ("not whole, no byte", put(spoiled, three, b""), (3, three, spoiled)),
-        ("used too large", put(EMPTY, Sender(2 ** 64 - 1, 0), b"\1")[0], 3),
-        ("queue too long", put(EMPTY + b"\0", Sender(2 ** 64 - 1, 0), b"")[0], 2),
-        ("put touches nothing else", put(EMPTY, FRESH, b"\xAA"), (0, Sender(3, 0), b"\0\1\xAA" + EMPTY[3:])),
+        ("used too large", put(EMPTY, Sender(0, 2 ** 64 - 1, 0), b"\1")[0], 3),
+        ("start too large", put(EMPTY, past_the_end, b"\1"), (3, past_the_end, EMPTY)),
+        ("queue too long", put(EMPTY + b"\0", Sender(2 ** 64 - 1, 2 ** 64 - 1, 0), b"")[0], 2),
+        ("put touches nothing else", put(EMPTY, FRESH, b"\xAA"), (0, Sender(0, 3, 0), b"\0\1\xAA" + EMPTY[3:])),
+        ("a mark parted by the end", put(EMPTY, Sender(LAST, 0, 0), b"\xAA"),
+         (0, Sender(LAST, 3, 0), b"\1\xAA" + EMPTY[2:LAST] + b"\0")),
     ]
 
 
-def sent(lengths):
+def sent(lengths, start=0):
     """The areas sent for packets of these lengths up to the first IDLE frame, and the last state."""
-    sender, queue = filled(lengths)
+    sender, queue = filled(lengths, start)
     areas = []
     while True:
         before = sender
@@ -132,7 +146,7 @@ def frame_cases():
     once = next_frame(TAPS, FIELDS, sender, queue, OUTPUT)
     marks = [area[:2].hex() for area in sent([9000])[0]]
     both, waits, alone = sent([1903, 1])[0], sent([1903, 2])[0], sent([1904, 1])[0]
-    idle = next_frame(TAPS, FIELDS, Sender(0, 65535), EMPTY, OUTPUT)
+    idle = next_frame(TAPS, FIELDS, Sender(7, 0, 65535), EMPTY, OUTPUT)
     return [
         ("1,906", [area[:2].hex() for area in sent([1906])[0]], ["c772"]),
         ("1,907", [area[:2].hex() for area in sent([1907])[0]], ["8772", "4001"]),
@@ -140,23 +154,39 @@ def frame_cases():
         ("1,903, then 1", (len(both), both[0][1905:].hex()), (1, "c00101")),
         ("1,903, then 2", (len(waits), waits[0][1905:].hex(), waits[1][:3].hex()), (2, "800102", "400102")),
         ("1,904, then 1", (len(alone), alone[0][1906:], alone[1][:3].hex()), (2, b"\0\0", "c00101")),
-        ("every frame counts", sent([9000])[1], Sender(0, 6)),
-        ("the rest moves to the front", once[1], Sender(3 + 7, 1)),
-        ("bytes past the new used count", once[2], b"\x80\x01" + bytes([1907 % 251]) + queue[1909:1916] + queue[10:]),
-        ("IDLE: only the TXFN changes", idle[:3], (0, Sender(0, 0), EMPTY)),
+        ("every frame counts", sent([9000])[1], Sender(9002, 0, 6)),
+        ("the start moves on", once[1], Sender(1906, 3 + 7, 1)),
+        ("only the new mark is written", once[2], queue[:1906] + b"\x80\x01" + queue[1908:]),
+        ("IDLE: only the TXFN changes", idle[:3], (0, Sender(7, 0, 0), EMPTY)),
         ("IDLE: zeros", frames.open_frame(TAPS, idle[3][:frames.FRAME], codes.AREA)[2], bytes(codes.AREA)),
+    ]
+
+
+def ring_cases():
+    """What the end of the ring parts, and that frames do not tell where they stood in it."""
+    long, long_queue = filled([9000], LAST - 1906)
+    parted = next_frame(TAPS, FIELDS, long, long_queue, OUTPUT)
+    two, two_queue = filled([1903, 2], LAST - 1906)
+    after_one = next_frame(TAPS, FIELDS, two, two_queue, OUTPUT)
+    full = [9000, 9000, 9000, 5760]
+    return [
+        ("a new mark parted by the end", parted[1:3], (Sender(LAST, 7096, 1), b"\xB6" + long_queue[1:LAST] + b"\x9B")),
+        ("a cut after one byte", after_one[1:3], (Sender(LAST, 3, 1), b"\x01" + two_queue[1:LAST] + b"\x80")),
+        ("a full ring emptied", sent(full, LAST)[1], Sender(LAST, 0, 19)),
+        ("the same frames from any start", sent(full, LAST)[0], sent(full, 0)[0]),
     ]
 
 
 def refusal_cases():
     """The refusals of next_frame, and that they change nothing."""
     wrong = FIELDS._replace(rxfn=1)
-    torn = Sender(1, 7)
+    torn, past_the_end = Sender(0, 1, 7), Sender(packing.QUEUE, 0, 7)
     return [
         ("taps", next_frame(2, wrong, torn, EMPTY[1:], b"ab"), (1, torn, EMPTY[1:], b"ab")),
         ("queue's length", next_frame(TAPS, wrong, torn, EMPTY[1:], OUTPUT)[0], 2),
         ("output's length", next_frame(TAPS, wrong, torn, EMPTY, OUTPUT[:2080]), (2, torn, EMPTY, OUTPUT[:2080])),
         ("queue not whole", next_frame(TAPS, wrong, torn, EMPTY, OUTPUT), (3, torn, EMPTY, OUTPUT)),
+        ("start too large", next_frame(TAPS, wrong, past_the_end, EMPTY, OUTPUT), (3, past_the_end, EMPTY, OUTPUT)),
         ("IDLE with a wrong field", next_frame(TAPS, wrong, FRESH, EMPTY, OUTPUT), (6, FRESH, EMPTY, OUTPUT)),
         ("txfn and type are ignored",
          next_frame(TAPS, FIELDS._replace(txfn=-1, type=9), FRESH, EMPTY, OUTPUT),
@@ -166,7 +196,7 @@ def refusal_cases():
 
 def own_trial():
     """Tries every number of 01 that concerns the sender; gives how many."""
-    return codes.all_same(put_cases() + frame_cases() + refusal_cases())
+    return codes.all_same(put_cases() + frame_cases() + ring_cases() + refusal_cases())
 
 
 if __name__ == "__main__":

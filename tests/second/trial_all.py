@@ -60,7 +60,8 @@ class SendingEnd:
     def __init__(self, chance, taps):
         self.chance = chance
         self.taps = taps
-        self.state = sender.Sender(0, 65400)  # so that the session passes 65,535
+        # Begun near both ends, so that the session passes 65,535 and the ring's last byte.
+        self.state = sender.Sender(chance.randrange(packing.QUEUE - 9000, packing.QUEUE), 0, 65400)
         self.queue = chance.randbytes(packing.QUEUE)
         self.given = []
         self.first_frame = {}
@@ -77,12 +78,12 @@ class SendingEnd:
 
     def send(self, place):
         """The frame of this place; what left the queue with it tells which packets have bytes in it."""
-        before = packing.waiting_of(self.queue, self.state.used)
+        before = sender.waiting(self.queue, self.state)
         output = self.chance.randbytes(frames.FRAME)
         number, self.state, self.queue, frame = sender.next_frame(
             self.taps, random_fields(self.chance), self.state, self.queue, output)
         codes.all_same([("a frame built", number, 0)])
-        after = packing.waiting_of(self.queue, self.state.used)
+        after = sender.waiting(self.queue, self.state)
         oldest = len(self.given) - len(before)
         still = len(self.given) - len(after)
         for packet in range(oldest, still):

@@ -1,9 +1,11 @@
--- Laws of lists of zeros, of bytes and of entries.
+-- Laws of lists of zeros, of bytes and of entries; and of parts of a list, as code cuts them.
 use mathlib.Core.Path.{_≡_, refl, sym, ap, _∙_, subst}
 use mathlib.Core.List.{List, [], _∷_, _++_}
-use Prim.Native.Nat.{ℕ, zero, suc, _+_, _<_}
+use Prim.Native.Nat.{ℕ, zero, suc, _+_, _-_, _≤_, _<_}
 use native.Mathlib.Nat.{not-suc-le-zero, le-of-suc-le-suc, add-zero, add-suc, suc-add}
-use lib.ListN.{length, getD, take, drop, length-replicate, take-append-drop}
+use native.Mathlib.Omega.{arith}
+use lib.ListN.{length, getD, take, drop, length-drop, length-replicate, take-append-drop}
+use lib.Seq.{take-all, take-add, drop-at, length-take-le}
 use Rattle.basics.specs.Lists.{zeros, Bytes, entries}
 
 pub zeros-length : (n : ℕ) → length (zeros n) ≡ n
@@ -53,3 +55,16 @@ unfolding entries
 entries-at f i zero k h = absurd (not-suc-le-zero h)
 entries-at f i (suc n) zero h = ap f (sym (add-zero i))
 entries-at f i (suc n) (suc k) h = entries-at f (suc i) n k (le-of-suc-le-suc h) ∙ ap f (suc-add i k ∙ sym (add-suc i k))
+
+-- ---- parts: `&l[k..]`, `&l[from..from + n]`, and a part of a front
+
+pub cut-rest : (l : List ℕ) (k : ℕ) → take (length l - k) (drop k l) ≡ drop k l
+cut-rest l k = take-all (length l - k) (drop k l) (simp length-drop (omega arith))
+
+pub cut-part : (l : List ℕ) (from n : ℕ) → take (from + n - from) (drop from l) ≡ take n (drop from l)
+cut-part l from n = let e : from + n - from ≡ n = omega arith in ap (λ (m : ℕ). take m (drop from l)) e
+
+pub drop-take : (k n : ℕ) (l : List ℕ) → k ≤ n → k ≤ length l → drop k (take n l) ≡ take (n - k) (drop k l)
+drop-take k n l h f =
+    let e : k + (n - k) ≡ n = omega arith in
+    ap (λ (m : ℕ). drop k (take m l)) (sym e) ∙ ap (drop k) (take-add k (n - k) l) ∙ drop-at (take k l) (take (n - k) (drop k l)) k (length-take-le k l f)

@@ -26,7 +26,7 @@ use Rattle.opening.specs.declared.OpenAnswer.the-variants as opening
 use Rattle.link.specs.Link.{Piece, fits, missed, heldAfter, receive}
 use Rattle.link.specs.Link as link
 use Rattle.link.specs.Packing.{receiveRead}
-use Rattle.marks.specs.Queue.{isUsedWhole}
+use Rattle.marks.specs.Queue.{isRingWhole}
 use Rattle.sender.specs.Put.{putRefusal, PutOutcome}
 use Rattle.sending.specs.Next.{nextRefusal, NextOutcome}
 use Rattle.sender.specs.declared.PutAnswer.the-variants as putting
@@ -48,20 +48,20 @@ use Rattle.demands.proofs.Outcomes.{Given, given-cond, given-by, given-
 leaf : {numbers : List ℕ} (number : ℕ) → among number numbers ≡ true → Given numbers number
 leaf number e = record { is = e }
 
-put-numbers : (queue : List ℕ) (used : ℕ) (packet : List ℕ) → Given (0 ∷ putNumbers) (putRefusal queue used packet)
+put-numbers : (queue : List ℕ) (start used : ℕ) (packet : List ℕ) → Given (0 ∷ putNumbers) (putRefusal queue start used packet)
 unfolding putRefusal
-put-numbers queue used packet =
+put-numbers queue start used packet =
     given-cond (eqb (length queue) 32768)
-    (given-cond (isUsedWhole queue used)
+    (given-cond (isRingWhole queue start used)
     (given-cond (leb 1 (length packet) && leb (length packet) 9000)
     (given-cond (leb (used + 2 + length packet) 32768) (leaf 0 refl) (leaf 5 refl)) (leaf 4 refl)) (leaf 3 refl)) (leaf 2 refl)
 
-next-numbers : (taps : ℕ) (fields : Fields) (used : ℕ) (queue out : List ℕ) → Given (0 ∷ nextNumbers) (nextRefusal taps fields used queue out)
+next-numbers : (taps : ℕ) (fields : Fields) (start used : ℕ) (queue out : List ℕ) → Given (0 ∷ nextNumbers) (nextRefusal taps fields start used queue out)
 unfolding nextRefusal
-next-numbers taps fields used queue out =
+next-numbers taps fields start used queue out =
     given-cond (tapsAllowed taps)
     (given-cond (eqb (length queue) 32768 && leb 2081 (length out))
-    (given-cond (isUsedWhole queue used)
+    (given-cond (isRingWhole queue start used)
     (given-cond (fieldsFit fields) (leaf 0 refl) (leaf 6 refl)) (leaf 3 refl)) (leaf 2 refl)) (leaf 1 refl)
 
 code-numbers : (header : Header) (out : List ℕ) → Given (0 ∷ codeNumbers) (codeRefusal header out)
@@ -177,14 +177,14 @@ never-found list position n = go (eqb position (length list))
 pub every-call-holds : EveryCall
 every-call-holds = record {
   put = λ queue sender packet.
-      let number = putRefusal queue (sender .used) packet in
+      let number = putRefusal queue (sender .start) (sender .used) packet in
       call-holds (PutOutcome queue sender packet) (λ n. putting.Refused n) (λ n m e. cc) _ (λ n e. let z : Never = cc in omega arith) putNumbers number
-      (put-numbers queue (sender .used) packet) queue _ (unwritten number _ queue)
+      (put-numbers queue (sender .start) (sender .used) packet) queue _ (unwritten number _ queue)
       (record { answer = refl; bytes = refl }) (λ r after o. (o .answer, o .bytes));
   next-frame = λ taps fields sender queue out.
-      let number = nextRefusal taps fields (sender .used) queue out in
+      let number = nextRefusal taps fields (sender .start) (sender .used) queue out in
       call-holds (λ answer after. NextOutcome taps fields sender queue out answer (after .0) (after .1)) (λ n. sending.Refused n) (λ n m e. cc) _
-      (λ n e. let z : Never = cc in omega arith) nextNumbers number (next-numbers taps fields (sender .used) queue out)
+      (λ n e. let z : Never = cc in omega arith) nextNumbers number (next-numbers taps fields (sender .start) (sender .used) queue out)
       (queue, out) (_, _) (λ differs. pair-path (unwritten number _ queue differs) (unwritten number _ out differs))
       (record { answer = refl; bytes = refl; frame = refl }) (λ r after o. (o .answer, pair-path (o .bytes) (o .frame)));
   receive = λ taps frame receiver hold list.

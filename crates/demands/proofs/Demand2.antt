@@ -5,9 +5,8 @@ use mathlib.Core.Option.{Option, none, some}
 use mathlib.Core.List.{List, []}
 use Prim.Native.Nat.{ℕ, _<_}
 use native.Mathlib.Omega.{arith}
-use lib.Dec.{eqb}
 use lib.ListN.{length, take, drop}
-use borrow.Author.Tests.{eqb-true, lt-ltb, eq-eqb, le-leb}
+use borrow.Author.Tests.{lt-ltb, eq-eqb, le-leb}
 use Rattle.basics.specs.Lists.{zeros, Bytes}
 use Rattle.basics.proofs.Lists.{bytes-take, bytes-drop, zeros-length}
 use Rattle.basics.proofs.Tests.{both-true}
@@ -33,7 +32,7 @@ use Rattle.link.specs.Link as link
 use Rattle.link.specs.Link.{Piece, Queue, IsQueue, Cut, cut, fits, missed, heldAfter, receive}
 use Rattle.link.specs.Packing.{busy, receiveRead}
 use Rattle.link.proofs.RoundTrip.{parse-queue}
-use Rattle.marks.specs.Queue.{queueIn}
+use Rattle.marks.specs.Queue.{usedIn, waitingIn}
 use Rattle.marks.proofs.Parsed.{whole-parsed}
 use Rattle.packing.specs.Rules.{Allowed}
 use Rattle.packing.specs.Filling.{fill, load}
@@ -43,8 +42,8 @@ use Rattle.packing.proofs.Filling.{fill-cut}
 use Rattle.packing.proofs.Bench.{area-allowed}
 use Rattle.sending.specs.Next.{kindFor, areaFor, headerFor, senderAfter, nextRefusal, NextOutcome}
 use Rattle.sender.specs.declared.Sender.{Sender}
-use Rattle.sending.specs.declared.NextAnswer.the-variants.{Sent, Refused}
-use Rattle.sending.proofs.Sending.{next-passed}
+use Rattle.sending.specs.declared.NextAnswer.the-variants.{Sent}
+use Rattle.sending.proofs.Sending.{next-passed, sent-so}
 use Rattle.receiver.specs.Applying.{standing, isData, piecesOf, received, numberOf, buffersRefusal}
 use Rattle.receiving.specs.Receiving.{argumentRefusal, frameRefusal, receiveRefusal}
 use Rattle.receiver.specs.declared.Receiver.{Receiver}
@@ -62,14 +61,6 @@ built-size taps header area t h long =
 
 -- ---- next_frame
 
-sent-with : (n : ℕ) (after state : Sender) (kind kind′ : FrameKind) → Sent after kind ≡ by n (Sent state kind′) (Refused n) → (n ≡ 0) × (kind ≡ kind′)
-unfolding by
-sent-with n after state kind kind′ = go (eqb n 0) refl
-  where
-    go : (test : Bool) → eqb n 0 ≡ test → Sent after kind ≡ cond test (Sent state kind′) (Refused n) → (n ≡ 0) × (kind ≡ kind′)
-    go true t e = (eqb-true n 0 t, cc)
-    go false t e = let z : _≡_ {A = ℕ} 0 1 = cc in absurd (omega arith)
-
 area-size : (q : Queue) → IsQueue q → length (areaFor q) ≡ 1908
 area-size q h = go (busy q) refl
   where
@@ -84,19 +75,20 @@ data-area q h t =
 
 sends-so : (taps : ℕ) (fields : Fields) (sender sender′ : Sender) (queue out : List ℕ) (kind : FrameKind) (queue′ out′ : List ℕ) → sender .next .0 < 65536
     → NextOutcome taps fields sender queue out (Sent sender′ kind) queue′ out′
-    → SentFrame taps fields sender (queueIn (take (sender .used) queue)) kind (take 2081 out′)
+    → SentFrame taps fields sender (waitingIn queue (sender .start) (sender .used)) kind (take 2081 out′)
 sends-so taps fields sender sender′ queue out kind queue′ out′ small o =
+    let start = sender .start in
     let used = sender .used in
-    let waiting = queueIn (take used queue) in
-    let n = nextRefusal taps fields used queue out in
-    let sent = sent-with n sender′ (senderAfter sender waiting) kind (kindFor waiting) (o .answer) in
-    let passed = next-passed taps fields used queue out (sent .0) in
-    let is-queue = parse-queue (take used queue) waiting (whole-parsed (take used queue) (passed .whole)) in
+    let waiting = waitingIn queue start used in
+    let n = nextRefusal taps fields start used queue out in
+    let sent = sent-so n sender′ (senderAfter sender waiting) kind (kindFor waiting) (o .answer) in
+    let passed = next-passed taps fields start used queue out (sent .0) in
+    let is-queue = parse-queue (usedIn queue start used) waiting (whole-parsed (usedIn queue start used) (passed .whole)) in
     let header = headerFor sender fields waiting in
     let fits-header : headerFits header ≡ true = both-true _ (fieldsFit fields) (lt-ltb (sender .next .0) 65536 small) (passed .fits) in
     let frame : out′ ≡ written out 0 (frameBytes taps header (areaFor waiting)) = o .frame ∙ sym (accepted n n _ out _ refl (sent .0) refl) in
     let size = built-size taps header (areaFor waiting) (passed .allowed) fits-header (area-size waiting is-queue) in
-    rw (sent .1) (record {
+    rw (sent .2) (record {
       area = areaFor waiting;
       coded = ap (take 2081) frame ∙ written-front out (frameBytes taps header (areaFor waiting)) 2081 size;
       may-be-sent = fits-header;

@@ -21,7 +21,7 @@ use Rattle.link.specs.Ledger.{ledger, came}
 use Rattle.link.specs.Demand3.{packetsOf, missedOf}
 use Rattle.link.specs.Store.{layout, parse, isWhole, packetsIn}
 use Rattle.packing.specs.Filling.{fillWaiting, load}
-use Rattle.marks.specs.Queue.{isUsedWhole}
+use Rattle.marks.specs.Queue.{isRingWhole}
 use Rattle.sender.specs.Put.{freshSender, putRefusal, PutOutcome}
 use Rattle.sender.specs.declared.PutAnswer.the-variants as putting
 use Rattle.sender.proofs.Stands.{fresh-stands}
@@ -58,7 +58,7 @@ module _ (taps : ℕ) (allowed : tapsAllowed taps ≡ true) (fields : Fields) (f
   fates = fatesOf taps list list-size freshReceiver hold ways (framesSent calls)
 
   nothing-put : PutOutcome queue freshSender [] (putting.Refused 4) queue
-  unfolding putRefusal isUsedWhole isWhole parse packetsIn by
+  unfolding putRefusal isRingWhole isWhole parse packetsIn by
   nothing-put = record { answer = rw (eq-eqb (length queue) 32768 queue-size); bytes = rw (eq-eqb (length queue) 32768 queue-size) }
 
   calls-met : SenderCalls taps freshSender queue calls

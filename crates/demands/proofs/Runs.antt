@@ -2,19 +2,17 @@
 -- whose packets find room is answered with yes, call by call, and makes a history with every fate of its frames, missing, damaged or arriving, within the
 -- limit.
 use mathlib.Core.Path.{_≡_, refl, ap, _∙_}
-use mathlib.Core.Bool.{Bool, true, false, cond}
-use mathlib.Core.Option.{Option, none, some}
+use mathlib.Core.Bool.{true}
+use mathlib.Core.Option.{some}
 use mathlib.Core.List.{List, [], _∷_}
 use Prim.Native.Nat.{ℕ, zero, suc, _+_, _-_, _≤_, _<_}
 use native.Mathlib.Omega.{arith}
-use lib.Dec.{leb}
-use lib.ListN.{length, take, length-append, length-drop}
-use borrow.Author.Tests.{eq-eqb, le-leb}
+use lib.ListN.{length, take, length-append}
+use borrow.Author.Tests.{eq-eqb, le-leb, lt-ltb}
 use Rattle.basics.specs.Lists.{zeros, Bytes}
 use Rattle.lent.specs.Outcome.{by}
 use Rattle.lent.specs.Written.{written}
 use Rattle.lent.proofs.Outcome.{accepted, refused, kept, both-zero}
-use Rattle.lent.proofs.Written.{written-length}
 use Rattle.scrambler.specs.Scrambler.{tapsAllowed}
 use Rattle.header.specs.Header.{fieldsFit}
 use Rattle.header.specs.declared.Fields.{Fields}
@@ -22,12 +20,14 @@ use Rattle.frame.specs.Frame.{preamble, frameBytes}
 use Rattle.opening.specs.Opening.{openRefusal, outerRefusal, innerRefusal, unscrambled, openedHeader, openedArea}
 use Rattle.opening.proofs.Laws.{outer-passed}
 use Rattle.link.specs.Link as link
-use Rattle.link.specs.Link.{Packet, IsPacket, Queue, empty, withPacket, pieceThen, cutPacket, cutWaiting, cutRest, cutFrom, cut, Call}
+use Rattle.link.specs.Link.{IsPacket, Queue, empty, withPacket, cut, Call}
 use Rattle.link.specs.Ledger.{accepted as isAccepted, Limit}
 use Rattle.link.specs.Store.{marked, layout, parse, isSome, isWhole}
-use Rattle.link.proofs.Store.{usedRest, usedWaiting, length-layout, put-lays}
+use Rattle.link.proofs.Store.{put-lays}
 use Rattle.packing.specs.Filling.{load}
-use Rattle.marks.specs.Queue.{isUsedWhole, queueIn}
+use Rattle.ring.specs.Ring.{ringWritten}
+use Rattle.ring.proofs.Laws.{ring-length}
+use Rattle.marks.specs.Queue.{usedIn, isRingWhole, waitingIn}
 use Rattle.marks.proofs.Parsed.{queue-is}
 use Rattle.sender.specs.Put.{freshSender, putRefusal, putSender, putBytes, PutOutcome}
 use Rattle.sending.specs.Next.{kindFor, areaFor, headerFor, leftIn, senderAfter, nextRefusal, NextOutcome}
@@ -36,6 +36,7 @@ use Rattle.sender.specs.declared.PutAnswer.the-variants as putting
 use Rattle.sending.specs.declared.NextAnswer.the-variants as sending
 use Rattle.sender.proofs.Stands.{Stands, fresh-stands}
 use Rattle.sender.proofs.Putting.{put-stands}
+use Rattle.sending.proofs.Left.{left-no-longer}
 use Rattle.sending.proofs.Carried.{next-stands}
 use Rattle.receiver.specs.Applying.{received, numberOf}
 use Rattle.receiving.specs.Receiving.{argumentRefusal, frameRefusal, receiveRefusal, ReceiveOutcome, receiverAfter}
@@ -44,56 +45,22 @@ use Rattle.receiving.specs.declared.ReceiveAnswer.the-variants as receiving
 use Rattle.demands.specs.Demand3.{SenderCall, callPut, callNext, SenderCalls, Fate, missing, arrives, damaged, ReceiverCalls, marks}
 use Rattle.demands.proofs.Demand1.{every-call-holds}
 
--- ---- what a frame leaves takes no more bytes than there were
-
-abbrev used : Queue → ℕ
-used q = usedRest (q .rest) + usedWaiting (q .waiting)
-
-packet-left : (n : ℕ) (p : Packet) (ps : List Packet) → used (cutPacket n p ps .left) ≤ 2 + length p + usedWaiting ps
-packet-left zero p ps = omega arith
-packet-left (suc n) p ps = simp length-drop (omega arith)
-
-waiting-left : (n : ℕ) (ps : List Packet) → used (cutWaiting n ps .left) ≤ usedWaiting ps
-waiting-left n [] = omega arith
-waiting-left n (p ∷ ps) = go (leb (length p) n) (waiting-left (n - length p) ps)
-  where
-    go : (test : Bool) → used (cutWaiting (n - length p) ps .left) ≤ usedWaiting ps
-        → used (cond test (pieceThen (record { first = true; last = true; bytes = p }) (cutWaiting (n - length p) ps)) (cutPacket n p ps) .left) ≤ 2 + length p + usedWaiting ps
-    go true less = omega arith
-    go false less = packet-left n p ps
-
-rest-left : (n : ℕ) (rest : List ℕ) (ps : List Packet) → used (cutRest n rest ps .left) ≤ 2 + length rest + usedWaiting ps
-rest-left zero rest ps = omega arith
-rest-left (suc n) rest ps = simp length-drop (omega arith)
-
-from-left : (n : ℕ) (rest : Option (List ℕ)) (ps : List Packet) → used (cutFrom n rest ps .left) ≤ usedRest rest + usedWaiting ps
-from-left n none ps = omega (arith, waiting-left n ps)
-from-left n (some rest) ps = go (leb (length rest) n) (waiting-left (n - length rest) ps)
-  where
-    go : (test : Bool) → used (cutWaiting (n - length rest) ps .left) ≤ usedWaiting ps
-        → used (cond test (pieceThen (record { first = false; last = true; bytes = rest }) (cutWaiting (n - length rest) ps)) (cutRest n rest ps) .left)
-        ≤ 2 + length rest + usedWaiting ps
-    go true less = omega arith
-    go false less = rest-left n rest ps
-
-left-no-longer : (n : ℕ) (q : Queue) → length (layout (cut n q .left)) ≤ length (layout q)
-left-no-longer n q = rw (length-layout (cut n q .left), length-layout q) (from-left n (q .rest) (q .waiting))
-
 -- ---- a sender that is not refused
 
 pub record Ready (sender : Sender) (queue : List ℕ) (i : ℕ) (q : Queue) : Type 0 where
   pub stands : Stands queue sender i q
   pub size : length queue ≡ 32768
+  pub begins : sender .start < 32768
   pub used-is : sender .used ≡ length (layout q)
   pub within : sender .used ≤ 32768
 
-whole-so : (queue : List ℕ) (used : ℕ) (q : Queue) → used ≤ 32768 → parse (take used queue) ≡ some q → isUsedWhole queue used ≡ true
-unfolding isUsedWhole isWhole
-whole-so queue used q small e = rw (le-leb used 32768 small) (ap isSome e)
+whole-so : (queue : List ℕ) (start used : ℕ) (q : Queue) → start < 32768 → used ≤ 32768 → parse (usedIn queue start used) ≡ some q → isRingWhole queue start used ≡ true
+unfolding isRingWhole isWhole
+whole-so queue start used q inside small e = rw (lt-ltb start 32768 inside, le-leb used 32768 small) (ap isSome e)
 
 pub fresh-ready : (queue : List ℕ) → Bytes queue → length queue ≡ 32768 → Ready freshSender queue 0 empty
 unfolding layout
-fresh-ready queue b size = record { stands = fresh-stands queue b; size = size; used-is = refl; within = omega arith }
+fresh-ready queue b size = record { stands = fresh-stands queue b; size = size; begins = omega arith; used-is = refl; within = omega arith }
 
 module _ (taps : ℕ) (allowed : tapsAllowed taps ≡ true) (fields : Fields) (fit : fieldsFit fields ≡ true) (out : List ℕ) (room : 2081 ≤ length out) where
   -- the packets are 1 to 9,000 bytes, and find room in the queue
@@ -106,20 +73,20 @@ module _ (taps : ℕ) (allowed : tapsAllowed taps ≡ true) (fields : Fields) (f
   abbrev pub run : Sender → List ℕ → List Call → List SenderCall
   run sender queue [] = []
   run sender queue (link.put packet ∷ calls) =
-      callPut packet (putting.Taken (putSender sender packet)) (putBytes queue (sender .used) packet)
-      ∷ run (putSender sender packet) (putBytes queue (sender .used) packet) calls
+      callPut packet (putting.Taken (putSender sender packet)) (putBytes queue (sender .start) (sender .used) packet)
+      ∷ run (putSender sender packet) (putBytes queue (sender .start) (sender .used) packet) calls
   run sender queue (link.next ∷ calls) =
-      let waiting = queueIn (take (sender .used) queue) in
-      callNext fields out (sending.Sent (senderAfter sender waiting) (kindFor waiting)) (written queue 0 (layout (leftIn waiting)))
+      let waiting = waitingIn queue (sender .start) (sender .used) in
+      callNext fields out (sending.Sent (senderAfter sender waiting) (kindFor waiting)) (ringWritten queue (senderAfter sender waiting .start) 0 (layout (leftIn waiting)))
       (written out 0 (frameBytes taps (headerFor sender fields waiting) (areaFor waiting)))
-      ∷ run (senderAfter sender waiting) (written queue 0 (layout (leftIn waiting))) calls
+      ∷ run (senderAfter sender waiting) (ringWritten queue (senderAfter sender waiting .start) 0 (layout (leftIn waiting))) calls
 
   module _ {sender : Sender} {queue : List ℕ} {i : ℕ} {q : Queue} (r : Ready sender queue i q) where
-    whole : isUsedWhole queue (sender .used) ≡ true
-    whole = whole-so queue (sender .used) q (r .within) (r .stands .parsed)
+    whole : isRingWhole queue (sender .start) (sender .used) ≡ true
+    whole = whole-so queue (sender .start) (sender .used) q (r .begins) (r .within) (r .stands .parsed)
 
     module _ (packet : List ℕ) (is-packet : IsPacket packet) (bytes : Bytes packet) (fits : length (layout q) + 2 + length packet ≤ 32768) where
-      no-put-refusal : putRefusal queue (sender .used) packet ≡ 0
+      no-put-refusal : putRefusal queue (sender .start) (sender .used) packet ≡ 0
       unfolding putRefusal
       no-put-refusal = rw (
         eq-eqb (length queue) 32768 (r .size),
@@ -129,37 +96,38 @@ module _ (taps : ℕ) (allowed : tapsAllowed taps ≡ true) (fields : Fields) (f
         le-leb (sender .used + 2 + length packet) 32768 (omega (arith, r .used-is)),
       )
 
-      put-yes : PutOutcome queue sender packet (putting.Taken (putSender sender packet)) (putBytes queue (sender .used) packet)
+      put-yes : PutOutcome queue sender packet (putting.Taken (putSender sender packet)) (putBytes queue (sender .start) (sender .used) packet)
       put-yes =
-          let n = putRefusal queue (sender .used) packet in
+          let n = putRefusal queue (sender .start) (sender .used) packet in
           record { answer = accepted n n _ _ _ refl no-put-refusal refl; bytes = accepted n n _ _ _ refl no-put-refusal refl }
 
-      put-ready : Ready (putSender sender packet) (putBytes queue (sender .used) packet) i (withPacket q packet)
+      put-ready : Ready (putSender sender packet) (putBytes queue (sender .start) (sender .used) packet) i (withPacket q packet)
       put-ready =
           let long = ap length (put-lays q packet) ∙ length-append (layout q) (marked (length packet) packet) in
           record {
-            stands = put-stands queue sender packet (putSender sender packet) (putBytes queue (sender .used) packet) i q put-yes bytes (r .stands) .1;
-            size = written-length queue (sender .used) (marked (length packet) packet) (omega (arith, r .size, r .used-is)) ∙ r .size;
+            stands = put-stands queue sender packet (putSender sender packet) (putBytes queue (sender .start) (sender .used) packet) i q put-yes bytes (r .stands) .1;
+            size = ring-length queue (sender .start) (sender .used) (marked (length packet) packet) (omega (arith, r .size, r .begins)) (omega (arith, r .size, r .used-is)) ∙ r .size;
+            begins = r .begins;
             used-is = omega (arith, r .used-is, long);
             within = omega (arith, r .used-is);
           }
 
     abbrev waiting : Queue
-    waiting = queueIn (take (sender .used) queue)
+    waiting = waitingIn queue (sender .start) (sender .used)
 
     abbrev queue′ : List ℕ
-    queue′ = written queue 0 (layout (leftIn waiting))
+    queue′ = ringWritten queue (senderAfter sender waiting .start) 0 (layout (leftIn waiting))
 
     abbrev out′ : List ℕ
     out′ = written out 0 (frameBytes taps (headerFor sender fields waiting) (areaFor waiting))
 
-    no-next-refusal : nextRefusal taps fields (sender .used) queue out ≡ 0
+    no-next-refusal : nextRefusal taps fields (sender .start) (sender .used) queue out ≡ 0
     unfolding nextRefusal
     no-next-refusal = rw (allowed, eq-eqb (length queue) 32768 (r .size), le-leb 2081 (length out) room, whole, fit)
 
     next-yes : NextOutcome taps fields sender queue out (sending.Sent (senderAfter sender waiting) (kindFor waiting)) queue′ out′
     next-yes =
-        let n = nextRefusal taps fields (sender .used) queue out in
+        let n = nextRefusal taps fields (sender .start) (sender .used) queue out in
         record {
           answer = accepted n n _ _ _ refl no-next-refusal refl;
           bytes = accepted n n _ _ _ refl no-next-refusal refl;
@@ -169,11 +137,12 @@ module _ (taps : ℕ) (allowed : tapsAllowed taps ≡ true) (fields : Fields) (f
     next-ready : Ready (senderAfter sender waiting) queue′ (suc i) (cut (load q) q .left)
     next-ready =
         let left-is : length (layout (leftIn waiting)) ≡ length (layout (cut (load q) q .left)) =
-        ap (λ (w : Queue). length (layout (leftIn w))) (queue-is (take (sender .used) queue) q (r .stands .parsed)) in
+        ap (λ (w : Queue). length (layout (leftIn w))) (queue-is (usedIn queue (sender .start) (sender .used)) q (r .stands .parsed)) in
         let less = left-no-longer (load q) q in
         record {
           stands = next-stands taps fields sender queue out (senderAfter sender waiting) (kindFor waiting) queue′ out′ i q next-yes (r .stands) .1;
-          size = written-length queue 0 (layout (leftIn waiting)) (omega (arith, r .size, r .used-is, r .within)) ∙ r .size;
+          size = ring-length queue (senderAfter sender waiting .start) 0 (layout (leftIn waiting)) (omega (arith, r .size)) (omega (arith, r .size, r .used-is, r .within)) ∙ r .size;
+          begins = omega arith;
           used-is = left-is;
           within = omega (arith, r .used-is, r .within);
         }
@@ -184,7 +153,7 @@ module _ (taps : ℕ) (allowed : tapsAllowed taps ≡ true) (fields : Fields) (f
   all-yes (link.put packet ∷ calls) sender queue i q r h = (
     h .1,
     put-yes r packet (h .0) (h .1) (h .2),
-    all-yes calls (putSender sender packet) (putBytes queue (sender .used) packet) i (withPacket q packet) (put-ready r packet (h .0) (h .1) (h .2)) (h .3),
+    all-yes calls (putSender sender packet) (putBytes queue (sender .start) (sender .used) packet) i (withPacket q packet) (put-ready r packet (h .0) (h .1) (h .2)) (h .3),
   )
   all-yes (link.next ∷ calls) sender queue i q r h =
       (next-yes r, all-yes calls (senderAfter sender (waiting r)) (queue′ r) (suc i) (cut (load q) q .left) (next-ready r) h)

@@ -4,7 +4,6 @@ use mathlib.Core.Bool.{Bool, true, false, cond}
 use mathlib.Core.Option.{some}
 use mathlib.Core.List.{List, [], _∷_, map}
 use Prim.Native.Nat.{ℕ, suc, _%_}
-use lib.ListN.{take}
 use Rattle.header.specs.declared.Fields.{Fields}
 use Rattle.header.specs.declared.FrameKind.{FrameKind}
 use Rattle.header.specs.declared.FrameKind.the-variants.{Idle, Data}
@@ -16,6 +15,7 @@ use Rattle.link.specs.Link as link
 use Rattle.link.specs.Packing.{Opened, frameFor, piecesIn}
 use Rattle.link.proofs.Packing.{frame-pieces}
 use Rattle.link.proofs.Sender.{put-queue, cut-queue}
+use Rattle.marks.specs.Queue.{usedIn}
 use Rattle.marks.proofs.Parsed.{queue-is}
 use Rattle.packing.specs.Filling.{load}
 use Rattle.packing.specs.Reading.{read}
@@ -115,7 +115,7 @@ module _ (taps : ℕ) where
 
   sound : (calls : List SenderCall) (i : ℕ) (q : Queue) (sender : Sender) (queue : List ℕ) → Stands queue sender i q → IsQueue q
       → SenderCalls taps sender queue calls → Sound i q sender queue calls
-  sound [] i q sender queue s k h = record { carried = tt; packets = tt; taken = refl; left = queue-is (take (sender .used) queue) q (s .parsed) }
+  sound [] i q sender queue s k h = record { carried = tt; packets = tt; taken = refl; left = queue-is (usedIn queue (sender .start) (sender .used)) q (s .parsed) }
   sound (callPut packet (put.Taken after) left ∷ calls) i q sender queue s k h =
       let l = put-stands queue sender packet after left i q (h .1) (h .0) s in
       let r = sound calls i (withPacket q packet) after left (l .1) (put-queue q packet k (l .0)) (h .2) in

@@ -24,7 +24,7 @@ use Rattle.opening.specs.declared.OpenAnswer.{OpenAnswer}
 use Rattle.opening.specs.declared.OpenAnswer.the-variants.{Opened}
 use Rattle.link.specs.Link.{Piece, Queue, cut, fits, missed, heldAfter}
 use Rattle.link.specs.Packing.{busy}
-use Rattle.marks.specs.Queue.{queueIn}
+use Rattle.marks.specs.Queue.{waitingIn}
 use Rattle.packing.specs.Rules.{Allowed}
 use Rattle.packing.specs.Filling.{load}
 use Rattle.packing.specs.Reading.{read}
@@ -85,7 +85,7 @@ pub record Demand2 : Type 0 where
   -- next_frame: what stands at the front of its buffer, for a number of 16 bits
   pub sends : (taps : ℕ) (fields : Fields) (sender sender′ : Sender) (queue out : List ℕ) (kind : FrameKind) (queue′ out′ : List ℕ) → sender .next .0 < 65536
       → NextOutcome taps fields sender queue out (Sent sender′ kind) queue′ out′
-      → SentFrame taps fields sender (queueIn (take (sender .used) queue)) kind (take 2081 out′)
+      → SentFrame taps fields sender (waitingIn queue (sender .start) (sender .used)) kind (take 2081 out′)
   -- receive: it refuses nothing else
   pub accepts-exactly : (taps : ℕ) (frame : List ℕ) (receiver : Receiver) (hold list : List ℕ) → Bytes frame
       → (receiveRefusal taps frame receiver hold list ≡ 0) ↔ (Arguments taps receiver hold list × Acceptable taps frame receiver hold)

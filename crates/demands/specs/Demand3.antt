@@ -15,7 +15,7 @@ use Rattle.opening.specs.Opening.{openedHeader, openedArea}
 use Rattle.link.specs.Link.{Packet, Piece, Queue, Answer, taken, refused}
 use Rattle.link.specs.Ledger.{Mark, lost, accepted, Limit}
 use Rattle.link.specs.Demand3.{Demand3}
-use Rattle.marks.specs.Queue.{queueIn}
+use Rattle.marks.specs.Queue.{waitingIn}
 use Rattle.joining.specs.Joining.{orNone}
 use Rattle.sender.specs.Put.{freshSender, PutOutcome}
 use Rattle.sending.specs.Next.{NextOutcome}
@@ -71,7 +71,7 @@ framesSent (callNext fields out (next.Refused number) queue after ∷ calls) = f
 
 -- what waits in the queue after all calls
 abbrev pub queueLeft : Sender → List ℕ → List SenderCall → Queue
-queueLeft sender queue [] = queueIn (take (sender .used) queue)
+queueLeft sender queue [] = waitingIn queue (sender .start) (sender .used)
 queueLeft sender queue (callPut packet answer left ∷ calls) = queueLeft (putLeaves sender answer) left calls
 queueLeft sender queue (callNext fields out answer left after ∷ calls) = queueLeft (nextLeaves sender answer) left calls
 

@@ -74,16 +74,30 @@ fn put_due(before: NearEnd, count: u16, queue: &mut [u8]) -> NearEnd {
     put_block(before, queue, &mut block[0..length])
 }
 
-// How many packets wait in the used bytes of the queue.
-fn waiting(bytes: &[u8]) -> u16 {
+// The mark at an index of the ring's used bytes; 0 where none stands there.
+fn mark_in(queue: &[u8], start: usize, used: usize, at: usize) -> usize {
+    if queue.len() < start {
+        return 0;
+    }
+    if queue.len() < used {
+        return 0;
+    }
+    if used < 2 {
+        return 0;
+    }
+    if used - 2 < at {
+        return 0;
+    }
+    marks::mark_round(queue, start, at)
+}
+
+// How many packets wait in the ring.
+fn waiting(queue: &[u8], start: usize, used: usize) -> u16 {
     let mut packets: u16 = 0;
     let mut at: usize = 0;
-    while at < bytes.len() {
-        if bytes.len() - at < 2 {
-            return packets;
-        }
-        let length = marks::mark_at(bytes, at) % 32768;
-        if bytes.len() - at - 2 < length {
+    while at < used {
+        let length = mark_in(queue, start, used, at) % 32768;
+        if used - at < 2 + length {
             return packets;
         }
         packets = std::num::wrapping_add_u16(packets, 1);
@@ -93,11 +107,8 @@ fn waiting(bytes: &[u8]) -> u16 {
 }
 
 // 1 where a part of the packet at the front is sent, and 0 where none is.
-fn begun(bytes: &[u8]) -> u16 {
-    if bytes.len() < 2 {
-        return 0;
-    }
-    if marks::mark_at(bytes, 0) < 32768 {
+fn begun(queue: &[u8], start: usize, used: usize) -> u16 {
+    if mark_in(queue, start, used, 0) < 32768 {
         0
     } else {
         1
@@ -105,14 +116,14 @@ fn begun(bytes: &[u8]) -> u16 {
 }
 
 // The number of the first block of which not all is sent.
-fn first_waiting(put: u16, queue: &[u8], used: usize) -> u16 {
-    std::num::wrapping_sub_u16(put, waiting(report::front(queue, used)))
+fn first_waiting(put: u16, queue: &[u8], start: usize, used: usize) -> u16 {
+    std::num::wrapping_sub_u16(put, waiting(queue, start, used))
 }
 
 // The number behind the last block of which all is sent, or a part.
-fn end_of_sent(put: u16, queue: &[u8], used: usize) -> u16 {
-    let whole = first_waiting(put, queue, used);
-    std::num::wrapping_add_u16(whole, begun(report::front(queue, used)))
+fn end_of_sent(put: u16, queue: &[u8], start: usize, used: usize) -> u16 {
+    let whole = first_waiting(put, queue, start, used);
+    std::num::wrapping_add_u16(whole, begun(queue, start, used))
 }
 
 fn tell_carried(kind: FrameKind, first: u16, end: u16) {
@@ -140,10 +151,10 @@ fn next_frame(sender: Sender, queue: &mut [u8], frame: &mut [u8]) -> NextAnswer 
 fn send(before: NearEnd, queue: &mut [u8], frame: &mut [u8]) -> NearEnd {
     let put = before.put;
     let sender = before.sender;
-    let first = first_waiting(put, queue, sender.used);
+    let first = first_waiting(put, queue, sender.start, sender.used);
     match next_frame(sender, queue, frame) {
         NextAnswer::Sent { sender: next, kind } => {
-            let end = end_of_sent(put, queue, next.used);
+            let end = end_of_sent(put, queue, next.start, next.used);
             tell_carried(kind, first, end);
             NearEnd {
                 sender: next,

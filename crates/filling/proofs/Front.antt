@@ -4,15 +4,14 @@ use mathlib.Core.Bool.{Bool, true, false, cond}
 use mathlib.Core.Option.{Option, none, some}
 use mathlib.Core.List.{List, [], _∷_, _++_}
 use Prim.Native.Nat.{ℕ, _+_, _-_, _%_, _≤_, _<_}
-use native.Mathlib.Nat.{add-zero}
 use native.Mathlib.Omega.{arith}
 use lib.Dec.{leb, ltb}
 use lib.ListN.{length, take, drop, length-append, length-drop}
-use lib.Seq.{getD-drop, drop-drop, take-append-le, drop-append-le}
+use lib.Seq.{drop-drop, take-append-le, drop-append-le}
 use borrow.Author.Tests.{lt-ltb, le-ltb}
 use Rattle.link.specs.Link.{Packet, ArePackets, Queue, IsRest, IsQueue, cutNothing}
 use Rattle.link.specs.Store.{marked, layoutPackets, layoutRest, layout, markAt}
-use Rattle.link.proofs.Store.{mark-back, markFrom}
+use Rattle.link.proofs.Store.{mark-back, markFrom, mark-from}
 use Rattle.packing.specs.Rules.{shortest}
 use Rattle.packing.specs.Filling.{fillFront, fillWaiting, fill}
 
@@ -64,29 +63,28 @@ mark-first true n h = lt-ltb n 32768 (omega arith)
 mark-first false n h = le-ltb (32768 + n) 32768 (omega arith)
 
 -- ---- the front packet of the queue that stands in the bytes from a position on
-module _ (bytes : List ℕ) (start : ℕ) {q : Queue} (here : layout q ≡ drop start bytes) (f : Front q) where
-  stands : drop start bytes ≡ marked (frontMark (f .first) (length (f .bytes))) (f .bytes ++ layoutPackets (f .packets))
+module _ (bytes : List ℕ) (from : ℕ) {q : Queue} (here : layout q ≡ drop from bytes) (f : Front q) where
+  stands : drop from bytes ≡ marked (frontMark (f .first) (length (f .bytes))) (f .bytes ++ layoutPackets (f .packets))
   stands = sym here ∙ f .lays
 
-  pub inside : start + 2 + length (f .bytes) ≤ length bytes
-  inside = omega (arith, ap length stands, length-drop start bytes, length-append (f .bytes) (layoutPackets (f .packets)))
+  pub inside : from + 2 + length (f .bytes) ≤ length bytes
+  inside = omega (arith, ap length stands, length-drop from bytes, length-append (f .bytes) (layoutPackets (f .packets)))
 
-  mark-is : markFrom bytes start ≡ frontMark (f .first) (length (f .bytes))
+  mark-is : markFrom bytes from ≡ frontMark (f .first) (length (f .bytes))
   mark-is =
-      let at : markAt (drop start bytes) ≡ markFrom bytes start = rw (getD-drop start bytes 0 0, getD-drop start bytes 1 0, add-zero) in
-      sym at ∙ ap markAt stands ∙ mark-back (frontMark (f .first) (length (f .bytes))) (f .bytes ++ layoutPackets (f .packets))
+      sym (mark-from bytes from) ∙ ap markAt stands ∙ mark-back (frontMark (f .first) (length (f .bytes))) (f .bytes ++ layoutPackets (f .packets))
 
-  pub length-is : markFrom bytes start % 32768 ≡ length (f .bytes)
+  pub length-is : markFrom bytes from % 32768 ≡ length (f .bytes)
   length-is = ap (λ (m : ℕ). m % 32768) mark-is ∙ mark-length (f .first) (length (f .bytes)) (f .high)
 
-  pub first-is : ltb (markFrom bytes start) 32768 ≡ f .first
+  pub first-is : ltb (markFrom bytes from) 32768 ≡ f .first
   first-is = ap (λ (m : ℕ). ltb m 32768) mark-is ∙ mark-first (f .first) (length (f .bytes)) (f .high)
 
-  rest-is : drop (start + 2) bytes ≡ f .bytes ++ layoutPackets (f .packets)
-  rest-is = sym (drop-drop 2 start bytes) ∙ ap (drop 2) stands
+  rest-is : drop (from + 2) bytes ≡ f .bytes ++ layoutPackets (f .packets)
+  rest-is = sym (drop-drop 2 from bytes) ∙ ap (drop 2) stands
 
-  pub part : (k : ℕ) → k ≤ length (f .bytes) → take k (drop (start + 2) bytes) ≡ take k (f .bytes)
+  pub part : (k : ℕ) → k ≤ length (f .bytes) → take k (drop (from + 2) bytes) ≡ take k (f .bytes)
   part k h = ap (take k) rest-is ∙ take-append-le k (f .bytes) (layoutPackets (f .packets)) h
 
-  pub behind : (k : ℕ) → k ≤ length (f .bytes) → drop (start + 2 + k) bytes ≡ drop k (f .bytes) ++ layoutPackets (f .packets)
-  behind k h = sym (drop-drop k (start + 2) bytes) ∙ ap (drop k) rest-is ∙ drop-append-le k (f .bytes) (layoutPackets (f .packets)) h
+  pub behind : (k : ℕ) → k ≤ length (f .bytes) → drop (from + 2 + k) bytes ≡ drop k (f .bytes) ++ layoutPackets (f .packets)
+  behind k h = sym (drop-drop k (from + 2) bytes) ∙ ap (drop k) rest-is ∙ drop-append-le k (f .bytes) (layoutPackets (f .packets)) h

@@ -1,2 +1,4 @@
 pub mod Front
 pub mod Taking
+pub mod Round
+pub mod Freeing

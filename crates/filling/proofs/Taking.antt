@@ -6,7 +6,7 @@ use mathlib.Core.List.{List, _++_, append-assoc, append-nil}
 use Prim.Native.Nat.{ℕ, _+_, _-_, _%_, _≤_, _<_}
 use native.Mathlib.Omega.{arith}
 use lib.Dec.{ltb}
-use lib.ListN.{length, take, drop, length-drop, length-take, take-append-drop, drop-of-length-le, replicate-append-replicate}
+use lib.ListN.{length, take, drop, length-drop, take-append-drop, drop-of-length-le, replicate-append-replicate}
 use lib.Seq.{drop-drop, drop-at, length-take-le, take-length, drop-length}
 use borrow.Author.Tests.{ne-eqb, le-leb, lt-leb}
 use Rattle.basics.specs.Lists.{zeros, Bytes}
@@ -25,13 +25,13 @@ use Rattle.filling.specs.Filling.{remaining, FillOutcome}
 use Rattle.filling.proofs.Front.{Front, front, nothing, inside, length-is, first-is, part, behind}
 
 -- the loop's invariant
-pub record Filling (bytes after : List ℕ) (at start : ℕ) : Type 0 where
+pub record Filling (bytes after : List ℕ) (at from : ℕ) : Type 0 where
   -- what waits from here on
   pub queue : Queue
   pub is-queue : IsQueue queue
-  pub here : layout queue ≡ drop start bytes
+  pub here : layout queue ≡ drop from bytes
   pub low : at ≤ 1908
-  pub within : start ≤ length bytes
+  pub within : from ≤ length bytes
   pub long : length after ≡ 1908
   pub clear : drop at after ≡ zeros (1908 - at)
   pub records : recordsBytes (fill 1908 (queueIn bytes) .pieces) ≡ take at after ++ recordsBytes (fill (1908 - at) queue .pieces)
@@ -68,10 +68,10 @@ laid after records at e l h z =
     rw (size, e, ← z) (sym (take-append-drop at after))
 
 -- what a mark says of the packet behind it
-pub record Reached (start long mark : ℕ) : Type 0 where
+pub record Reached (from long mark : ℕ) : Type 0 where
   pub low : 1 ≤ mark % 32768
   pub high : mark % 32768 ≤ 9000
-  pub room : start + 2 + mark % 32768 ≤ long
+  pub room : from + 2 + mark % 32768 ≤ long
 
 -- zeros behind a part of zeros
 zeros-behind : (n k : ℕ) (l : List ℕ) → k ≤ n → l ≡ zeros n → drop k l ≡ zeros (n - k)
@@ -101,35 +101,35 @@ module _ (after : List ℕ) (at : ℕ) (piece : Piece) {after′ : List ℕ} (e 
       ap (λ (m : ℕ). drop m after′) (sym k) ∙ ap (drop (at + length (recordBytes piece) + 0)) e ∙ drop-written after at (recordBytes piece) (omega arith) 0
       ∙ ap (λ (m : ℕ). drop m after) j ∙ sym (drop-drop n at after) ∙ zeros-behind (1908 - at) n (drop at after) (omega arith) z ∙ ap zeros s
 
-module _ {bytes after : List ℕ} {at start : ℕ} (i : Filling bytes after at start) where
+module _ {bytes after : List ℕ} {at from : ℕ} (i : Filling bytes after at from) where
   -- nothing more is filled in
-  stops : fill (1908 - at) (i .queue) ≡ cutNothing (i .queue .rest) (i .queue .waiting) → FillOutcome bytes (record { start = start; unsent = 0 }) after
+  stops : fill (1908 - at) (i .queue) ≡ cutNothing (i .queue .rest) (i .queue .waiting) → FillOutcome bytes (record { stop = from; unsent = 0 }) after
   unfolding area
   stops e = record {
     filled = laid after (recordsBytes (fill 1908 (queueIn bytes) .pieces)) at
         (i .records ∙ ap (λ (c : Cut). take at after ++ recordsBytes (c .pieces)) e ∙ append-nil (take at after)) (i .low) (i .long) (i .clear);
-    rest = ap layout (i .left ∙ ap (λ (c : Cut). c .left) e) ∙ i .here ∙ sym (remaining-none (drop start bytes));
+    rest = ap layout (i .left ∙ ap (λ (c : Cut). c .left) e) ∙ i .here ∙ sym (remaining-none (drop from bytes));
     inside = i .within;
     most = omega arith;
     behind = λ z. absurd (z refl);
   }
 
-  pub ends : length bytes ≤ start → FillOutcome bytes (record { start = start; unsent = 0 }) after
-  ends l = stops (nothing (1908 - at) (i .queue) (ap length (i .here) ∙ length-drop start bytes ∙ omega arith))
+  pub ends : length bytes ≤ from → FillOutcome bytes (record { stop = from; unsent = 0 }) after
+  ends l = stops (nothing (1908 - at) (i .queue) (ap length (i .here) ∙ length-drop from bytes ∙ omega arith))
 
-  module _ (l : start < length bytes) where
+  module _ (l : from < length bytes) where
     pub the-front : Front (i .queue)
-    the-front = front (i .queue) (i .is-queue) (omega (arith, ap length (i .here), length-drop start bytes))
+    the-front = front (i .queue) (i .is-queue) (omega (arith, ap length (i .here), length-drop from bytes))
 
-    pub full : 1908 - at < 3 → FillOutcome bytes (record { start = start; unsent = 0 }) after
+    pub full : 1908 - at < 3 → FillOutcome bytes (record { stop = from; unsent = 0 }) after
     full s = stops (the-front .fills (1908 - at) ∙ rw (lt-leb 3 (1908 - at) s))
 
     -- the numbers of the front packet, by its mark
-    pub reached : {mark : ℕ} → mark ≡ markFrom bytes start → Reached start (length bytes) mark
+    pub reached : {mark : ℕ} → mark ≡ markFrom bytes from → Reached from (length bytes) mark
     reached {mark} e =
         let f = the-front in
-        let n : mark % 32768 ≡ length (f .bytes) = ap (λ (m : ℕ). m % 32768) e ∙ length-is bytes start (i .here) f in
-        record { low = omega (arith, f .low); high = omega (arith, f .high); room = omega (arith, inside bytes start (i .here) f) }
+        let n : mark % 32768 ≡ length (f .bytes) = ap (λ (m : ℕ). m % 32768) e ∙ length-is bytes from (i .here) f in
+        record { low = omega (arith, f .low); high = omega (arith, f .high); room = omega (arith, inside bytes from (i .here) f) }
 
     abbrev f : Front (i .queue)
     f = the-front
@@ -141,31 +141,31 @@ module _ {bytes after : List ℕ} {at start : ℕ} (i : Filling bytes after at s
     abbrev piece : Bool → ℕ → Piece
     piece last k = record { first = f .first; last = last; bytes = take k (f .bytes) }
 
-    module _ {mark : ℕ} (e : mark ≡ markFrom bytes start) (r : 3 ≤ 1908 - at) where
+    module _ {mark : ℕ} (e : mark ≡ markFrom bytes from) (r : 3 ≤ 1908 - at) where
       abbrev asWritten : Bool → ℕ → Piece
-      asWritten last k = record { first = ltb mark 32768; last = last; bytes = take k (drop (start + 2) bytes) }
+      asWritten last k = record { first = ltb mark 32768; last = last; bytes = take k (drop (from + 2) bytes) }
 
       n-is : mark % 32768 ≡ n
-      n-is = ap (λ (m : ℕ). m % 32768) e ∙ length-is bytes start (i .here) f
+      n-is = ap (λ (m : ℕ). m % 32768) e ∙ length-is bytes from (i .here) f
 
       wrote : (last : Bool) (k j : ℕ) {after′ : List ℕ} → j ≡ k → k ≤ n
           → after′ ≡ written after at (recordBytes (asWritten last j))
           → after′ ≡ written after at (recordBytes (piece last k))
       wrote last k j q h w =
           w ∙ ap₂ (λ (b : Bool) (l : List ℕ). written after at (recordBytes (record { first = b; last = last; bytes = l })))
-          (ap (λ (m : ℕ). ltb m 32768) e ∙ first-is bytes start (i .here) f)
-          (ap (λ (m : ℕ). take m (drop (start + 2) bytes)) q ∙ part bytes start (i .here) f k h)
+          (ap (λ (m : ℕ). ltb m 32768) e ∙ first-is bytes from (i .here) f)
+          (ap (λ (m : ℕ). take m (drop (from + 2) bytes)) q ∙ part bytes from (i .here) f k h)
 
       -- a packet that fits: its record is written, and filling goes on behind it
       pub goes-on : {after′ : List ℕ} → 2 + mark % 32768 ≤ 1908 - at
-          → after′ ≡ written after at (recordBytes (asWritten true (start + 2 + mark % 32768 - (start + 2))))
-          → Filling bytes after′ (at + 2 + mark % 32768) (start + 2 + mark % 32768)
+          → after′ ≡ written after at (recordBytes (asWritten true (mark % 32768)))
+          → Filling bytes after′ (at + 2 + mark % 32768) (from + 2 + mark % 32768)
       unfolding layout
       goes-on {after′} s w =
           let next : Queue = record { rest = none; waiting = f .packets } in
           let all : Piece = record { first = f .first; last = true; bytes = f .bytes } in
           let new : after′ ≡ written after at (recordBytes all) =
-          wrote true n (start + 2 + mark % 32768 - (start + 2)) (omega (arith, n-is)) (omega arith) w
+          wrote true n (mark % 32768) n-is (omega arith) w
           ∙ ap (λ (l : List ℕ). written after at (recordBytes (record { first = f .first; last = true; bytes = l }))) (take-length (f .bytes)) in
           let room : 1908 - at - (2 + n) ≡ 1908 - (at + 2 + n) = omega arith in
           let fits : at + 2 + n ≤ 1908 = omega (arith, n-is) in
@@ -174,9 +174,9 @@ module _ {bytes after : List ℕ} {at start : ℕ} (i : Filling bytes after at s
           rw n-is (record {
             queue = next;
             is-queue = (tt, f .others);
-            here = sym (behind bytes start (i .here) f n (omega arith) ∙ ap (λ (l : List ℕ). l ++ layoutPackets (f .packets)) (drop-length (f .bytes)));
+            here = sym (behind bytes from (i .here) f n (omega arith) ∙ ap (λ (l : List ℕ). l ++ layoutPackets (f .packets)) (drop-length (f .bytes)));
             low = fits;
-            within = inside bytes start (i .here) f;
+            within = inside bytes from (i .here) f;
             long = record-long after at all new (i .long) fits;
             clear = record-clear after at all new (i .long) fits (i .clear);
             records = i .records ∙ ap (λ (c : Cut). take at after ++ recordsBytes (c .pieces)) filled
@@ -187,14 +187,14 @@ module _ {bytes after : List ℕ} {at start : ℕ} (i : Filling bytes after at s
 
       -- a packet that does not fit: as much as fits is written, which fills the area
       pub cuts : {after′ : List ℕ} → 1908 - at < 2 + mark % 32768
-          → after′ ≡ written after at (recordBytes (asWritten false (start + 2 + (1908 - at - 2) - (start + 2))))
-          → FillOutcome bytes (record { start = start + 2 + (1908 - at - 2); unsent = mark % 32768 - (1908 - at - 2) }) after′
+          → after′ ≡ written after at (recordBytes (asWritten false (1908 - at - 2)))
+          → FillOutcome bytes (record { stop = from + 2 + (1908 - at - 2); unsent = mark % 32768 - (1908 - at - 2) }) after′
       unfolding layout area
       cuts {after′} s w =
           let k = 1908 - at - 2 in
           let some-bytes : Piece = piece false k in
           let new : after′ ≡ written after at (recordBytes some-bytes) =
-          wrote false k (start + 2 + k - (start + 2)) (omega arith) (omega (arith, n-is)) w in
+          wrote false k k refl (omega (arith, n-is)) w in
           let size : length (take k (f .bytes)) ≡ k = length-take-le k (f .bytes) (omega (arith, n-is)) in
           let unsent : length (drop k (f .bytes)) ≡ mark % 32768 - k = length-drop k (f .bytes) ∙ omega (arith, n-is) in
           let fits : at + 2 + length (take k (f .bytes)) ≤ 1908 = omega (arith, size) in
@@ -210,12 +210,9 @@ module _ {bytes after : List ℕ} {at start : ℕ} (i : Filling bytes after at s
             filled = laid after′ (recordsBytes (fill 1908 (queueIn bytes) .pieces)) 1908 records (omega arith) long (drop-of-length-le after′ {i = 1908} (omega arith));
             rest = ap layout (i .left ∙ ap (λ (c : Cut). c .left) filled)
                 ∙ ap (λ (m : ℕ). marked (32768 + m) (drop k (f .bytes) ++ layoutPackets (f .packets))) unsent
-                ∙ ap (marked (32768 + (mark % 32768 - k))) (sym (behind bytes start (i .here) f k (omega (arith, n-is))))
-                ∙ sym (remaining-some (mark % 32768 - k) (drop (start + 2 + k) bytes) (λ z. omega arith));
-            inside = omega (arith, n-is, inside bytes start (i .here) f);
+                ∙ ap (marked (32768 + (mark % 32768 - k))) (sym (behind bytes from (i .here) f k (omega (arith, n-is))))
+                ∙ sym (remaining-some (mark % 32768 - k) (drop (from + 2 + k) bytes) (λ z. omega arith));
+            inside = omega (arith, n-is, inside bytes from (i .here) f);
             most = omega (arith, n-is, f .high);
             behind = λ z. omega arith;
           }
-
-pub rest-length : (queue : List ℕ) (used start : ℕ) → start ≤ used → used ≤ length queue → length (drop start (take used queue)) ≡ used - start
-rest-length queue used start s u = simp (length-drop, length-take) (omega arith)

@@ -1,5 +1,5 @@
--- What the code does on the way to a frame: `fill` takes records off the queue, `settle` moves what remains to its front. The contract of `next_frame` does not
--- cite it, so whoever reads that contract need not believe anything here.
+-- What the code does on the way to a frame: `fill` takes records off the ring, `free_front` frees what they took. The contract of `next_frame` does not cite
+-- it, so whoever reads that contract need not believe anything here.
 use mathlib.Core.Path.{_≡_}
 use mathlib.Core.Bool.{cond}
 use mathlib.Core.List.{List}
@@ -8,8 +8,10 @@ use lib.Dec.{eqb}
 use lib.ListN.{length, drop}
 use Rattle.link.specs.Store.{marked, layout}
 use Rattle.packing.specs.Filling.{fill, area}
-use Rattle.marks.specs.Queue.{queueIn}
+use Rattle.ring.specs.Ring.{ringWritten}
+use Rattle.marks.specs.Queue.{queueIn, startAfter}
 use Rattle.filling.specs.declared.Filled.{Filled}
+use Rattle.filling.specs.declared.Left.{Left}
 
 -- what remains: bytes from a mark on; or those of a packet that was cut, with this many unsent, and then its new mark stands before them
 unfoldable pub remaining : ℕ → List ℕ → List ℕ
@@ -17,7 +19,13 @@ remaining unsent bytes = cond (eqb unsent 0) bytes (marked (32768 + unsent) byte
 
 pub record FillOutcome (bytes : List ℕ) (r : Filled) (after : List ℕ) : Type 0 where
   pub filled : after ≡ area (queueIn bytes)
-  pub rest : layout (fill 1908 (queueIn bytes) .left) ≡ remaining (r .unsent) (drop (r .start) bytes)
-  pub inside : r .start ≤ length bytes
+  pub rest : layout (fill 1908 (queueIn bytes) .left) ≡ remaining (r .unsent) (drop (r .stop) bytes)
+  pub inside : r .stop ≤ length bytes
   pub most : r .unsent ≤ 8999
-  pub behind : (r .unsent ≡ 0 → ⊥) → 2 ≤ r .start
+  pub behind : (r .unsent ≡ 0 → ⊥) → 2 ≤ r .stop
+
+-- this rest of the used bytes remains, and the ring holds it from its new start on
+pub record Freed (queue : List ℕ) (start used : ℕ) (rest : List ℕ) (r : Left) (after : List ℕ) : Type 0 where
+  pub count : r .used ≡ length rest
+  pub begins : r .start ≡ startAfter start used (length rest)
+  pub bytes : after ≡ ringWritten queue (startAfter start used (length rest)) 0 rest

@@ -1,4 +1,4 @@
--- The two states as C has them. Any two numbers are a sender's state, which the library judges.
+-- The two states as C has them. Any three numbers are a sender's state, which the library judges.
 use mathlib.Core.Bool.{Bool, true, cond, _&&_}
 use Prim.Native.Nat.{ℕ}
 use lib.Dec.{eqb}
@@ -10,10 +10,10 @@ use Rattle.flat_states.specs.declared.FlatReceiver.{FlatReceiver}
 use Rattle.flat_states.specs.declared.FlatSender.{FlatSender}
 
 abbrev pub senderOf : FlatSender → Sender
-senderOf flat = record { used = flat .used; next = record { 0 = flat .next } }
+senderOf flat = record { start = flat .start; used = flat .used; next = record { 0 = flat .next } }
 
 abbrev pub flatSender : Sender → FlatSender
-flatSender sender = record { used = sender .used; next = sender .next .0 }
+flatSender sender = record { start = sender .start; used = sender .used; next = sender .next .0 }
 
 -- a number is expected, or none is and then it is 0
 unfoldable pub isReceiver : FlatReceiver → Bool

@@ -1,4 +1,4 @@
-// The two states. Any two numbers are a sender's, which the library judges; numbers that are no receiver's are given a held length that it refuses (3).
+// The two states. Any three numbers are a sender's, which the library judges; numbers that are no receiver's are given a held length that it refuses (3).
 use counts::Txfn;
 use receiver::Expected;
 use receiver::Receiver;
@@ -8,6 +8,7 @@ ghost use Rattle.flat_states.specs.States.{senderOf, flatSender, isRecei
 
 #[repr(C)]
 pub struct FlatSender {
+    pub start: usize,
     pub used: usize,
     pub next: u16,
 }
@@ -16,6 +17,7 @@ pub fn sender_of(sender: FlatSender) -> Sender
     ensures { λ r. ⌜ r ≡ senderOf sender ⌝ }
 {
     Sender {
+        start: sender.start,
         used: sender.used,
         next: Txfn(sender.next),
     }
@@ -25,6 +27,7 @@ pub fn flat_sender(sender: Sender) -> FlatSender
     ensures { λ r. ⌜ r ≡ flatSender sender ⌝ }
 {
     FlatSender {
+        start: sender.start,
         used: sender.used,
         next: sender.next.0,
     }

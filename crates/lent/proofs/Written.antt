@@ -5,8 +5,8 @@ use Prim.Native.Nat.{ℕ, _+_, _-_, _≤_, _<_}
 use native.Mathlib.Nat.{add-assoc, add-zero, zero-add}
 use native.Mathlib.Numerals.{add-one}
 use native.Mathlib.Omega.{arith}
-use lib.ListN.{length, getD, take, drop, set, length-take, length-drop, length-append, drop-of-length-le, take-append-drop}
-use lib.Seq.{paste, paste-zero, paste-suc, getD-append-add, getD-drop, take-at, drop-at, drop-drop, drop-length, take-length, take-all, length-take-le}
+use lib.ListN.{length, getD, take, drop, set, length-take, length-drop, length-append, drop-of-length-le, take-append-drop, List·getD-append}
+use lib.Seq.{paste, paste-zero, paste-suc, take-append-le, take-append-add, drop-append-le, drop-append-add, getD-append-add, getD-drop, getD-take, take-at, drop-at, drop-drop, drop-length, take-length, take-all, length-take-le}
 use Rattle.basics.specs.Lists.{Bytes}
 use Rattle.basics.proofs.Lists.{bytes-append, bytes-take, bytes-drop}
 use Rattle.lent.specs.Written.{written}
@@ -29,6 +29,28 @@ module _ (d : List ℕ) (at : ℕ) (s : List ℕ) (h : at + length s ≤ length 
       sym (drop-drop k (at + length s) (take at d ++ s ++ drop (at + length s) d))
       ∙ ap (drop k) (drop-at (take at d ++ s) (drop (at + length s) d) (at + length s) head-length)
       ∙ drop-drop k (at + length s) d
+
+  -- byte by byte: what was written stands there, and all others keep their values
+  pub written-there : (k : ℕ) → k < length s → getD (written d at s) (at + k) 0 ≡ getD s k 0
+  unfolding written
+  written-there k l =
+      List·getD-append (take at d ++ s) (drop (at + length s) d) 0 (at + k) (rw head-length (omega arith))
+      ∙ ap (λ (n : ℕ). getD (take at d ++ s) (n + k) 0) (sym (length-take-le at d (omega arith))) ∙ getD-append-add (take at d) s k 0
+
+  pub kept-before : (i : ℕ) → i < at → getD (written d at s) i 0 ≡ getD d i 0
+  unfolding written
+  kept-before i l =
+      List·getD-append (take at d ++ s) (drop (at + length s) d) 0 i (rw head-length (omega arith))
+      ∙ List·getD-append (take at d) s 0 i (rw (length-take-le at d (omega arith)) l) ∙ getD-take at d i 0 l
+
+  pub kept-behind : (i : ℕ) → at + length s ≤ i → getD (written d at s) i 0 ≡ getD d i 0
+  unfolding written
+  kept-behind i l =
+      let k = i - (at + length s) in
+      let e : at + length s + k ≡ i = omega arith in
+      let j : length (take at d ++ s) + k ≡ i = ap (λ (n : ℕ). n + k) head-length ∙ e in
+      ap (λ (n : ℕ). getD (take at d ++ s ++ drop (at + length s) d) n 0) (sym j)
+      ∙ getD-append-add (take at d ++ s) (drop (at + length s) d) k 0 ∙ getD-drop (at + length s) d k 0 ∙ ap (λ (n : ℕ). getD d n 0) e
 
 -- one part after the other
 pub written-append : (d : List ℕ) (at : ℕ) (s t : List ℕ) → at + length s + length t ≤ length d → written (written d at s) (at + length s) t ≡ written d at (s ++ t)
@@ -56,23 +78,6 @@ paste-turn d at s j v hd hs e = rw (e, add-one j) (paste-suc d at s j 0 hd hs)
 pub paste-end : (d : List ℕ) (at : ℕ) (s : List ℕ) (j : ℕ) → j ≡ length s → paste d at s j ≡ written d at s
 unfolding written
 paste-end d at s j e = rw (e, take-length)
-
--- a byte that was not reached yet
-pub paste-later : (d : List ℕ) (at : ℕ) (s : List ℕ) (j k : ℕ) → at + j ≤ length d → j ≤ length s → at + j ≤ k → getD (paste d at s j) k 0 ≡ getD d k 0
-paste-later d at s j k hd hs h =
-    let e : at + j + (k - (at + j)) ≡ k = omega arith in
-    let p : List ℕ = take at d ++ take j s in
-    let l : length p ≡ at + j = simp (length-append, length-take) (omega arith) in
-    let a : getD (p ++ drop (at + j) d) (length p + (k - (at + j))) 0 ≡ getD (drop (at + j) d) (k - (at + j)) 0 = getD-append-add p (drop (at + j) d) (k - (at + j)) 0 in
-    (rw (l, e) at a) ∙ rw (getD-drop, e)
-
--- a part before one that stands already
-pub written-before : (d : List ℕ) (s t : List ℕ) (k : ℕ) → length s ≡ k → k + length t ≤ length d → written (written d k t) 0 s ≡ written d 0 (s ++ t)
-unfolding written
-written-before d s t k e h =
-    rw (zero-add, zero-add, e)
-    (ap (λ l. s ++ l) (ap (drop k) (append-assoc (take k d) t (drop (k + length t) d)) ∙ drop-at (take k d) (t ++ drop (k + length t) d) k (simp length-take (omega arith)))
-    ∙ rw (length-append, e) (sym (append-assoc s t (drop (k + length t) d))))
 
 -- as many bytes as the buffer has
 pub written-whole : (d s : List ℕ) → length s ≡ length d → written d 0 s ≡ s
@@ -106,6 +111,27 @@ written-behind d at s h = rw (zero-add, length-append, length-take-le at d h)
 pub written-own : (d : List ℕ) (n : ℕ) → n ≤ length d → written d 0 (take n d) ≡ d
 unfolding written
 written-own d n h = rw (zero-add, length-take-le n d h) (take-append-drop n d)
+
+-- bytes that stand there already, behind others that do not
+pub written-own-behind : (d m : List ℕ) (j : ℕ) → length m + j ≤ length d → written d 0 (m ++ take j (drop (length m) d)) ≡ written d 0 m
+unfolding written
+written-own-behind d m j h =
+    let t = take j (drop (length m) d) in
+    let long : length t ≡ j = simp (length-take, length-drop) (omega arith) in
+    rw (zero-add, zero-add, length-append m t, long, ← drop-drop j (length m) d) (append-assoc m t (drop j (drop (length m) d)) ∙ ap (λ (l : List ℕ). m ++ l) (take-append-drop j (drop (length m) d)))
+
+-- written into the first of two lists, one behind the other
+pub written-left : (b a : List ℕ) (at : ℕ) (s : List ℕ) → at + length s ≤ length b → written (b ++ a) at s ≡ written b at s ++ a
+unfolding written
+written-left b a at s h =
+    rw (take-append-le at b a (omega arith), drop-append-le (at + length s) b a h) (sym (append-assoc (take at b ++ s) (drop (at + length s) b) a))
+
+-- written into the second of them
+pub written-right : (b a : List ℕ) (k : ℕ) (s : List ℕ) → written (b ++ a) (length b + k) s ≡ b ++ written a k s
+unfolding written
+written-right b a k s =
+    rw (take-append-add b a k, add-assoc (length b) k (length s), drop-append-add b a (k + length s), append-assoc b (take k a) s)
+    (append-assoc b (take k a ++ s) (drop (k + length s) a))
 
 -- the front of a buffer that was written from index 0 on
 pub written-front : (d s : List ℕ) (n : ℕ) → length s ≡ n → take n (written d 0 s) ≡ s

@@ -1,7 +1,7 @@
 // Writing into lent bytes, the one way in which the crates above change a buffer; and whether two parts hold the same bytes.
 ghost use mathlib.Core.Path.{_≡_};
 ghost use Prim.Native.Nat.{_+_, _-_, _≤_};
-ghost use lib.ListN.{length, take, drop};
+ghost use lib.ListN.{length};
 ghost use Rattle.basics.specs.Lists.{zeros, same};
 ghost use Rattle.lent.specs.Written.{written};
 
@@ -11,19 +11,6 @@ pub fn write_at(buffer: &mut [u8], at: usize, source: &[u8])
     ensures { λ _. ⌜ now (buffer .exit) ≡ written (now (buffer .entry)) at (now (source .entry)) ⌝ }
 {
     bytes::copy(source, &mut buffer[at..]);
-}
-
-// Moves the bytes from index start up to end down to index to. What stands past them keeps its values.
-pub fn move_down(buffer: &mut [u8], to: usize, start: usize, end: usize)
-    requires { ⌜ (to ≤ start) × (start ≤ end) × (end ≤ length (now buffer)) ⌝ }
-    ensures { λ _. ⌜ now (buffer .exit) ≡ written (now (buffer .entry)) to (drop start (take end (now (buffer .entry)))) ⌝ }
-{
-    let n = end - start;
-    let mut i: usize = 0;
-    while i < n {
-        buffer[to + i] = buffer[start + i];
-        i = i + 1;
-    }
 }
 
 // Writes zeros from index at to the end.

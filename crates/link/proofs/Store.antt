@@ -1,4 +1,4 @@
--- The queue's bytes: how many there are, what putting adds, and how reading goes on from mark to mark, position by position, as a loop walks them.
+-- The queue's bytes: what putting adds, and how reading goes on from mark to mark, position by position, as a loop walks them.
 use mathlib.Core.Path.{_≡_, refl, ap}
 use mathlib.Core.Bool.{Bool, true, false, cond, _&&_}
 use mathlib.Core.Option.{Option, none, some}
@@ -7,38 +7,16 @@ use Prim.Native.Nat.{ℕ, zero, suc, _+_, _-_, _*_, _≤_, _<_}
 use native.Mathlib.Omega.{arith}
 use native.Mathlib.Nat.{div-add-mod', add-zero, add-assoc}
 use native.Mathlib.Decide.{decLe}
-use lib.ListN.{length, getD, take, drop, length-append, length-drop, drop-of-length-le}
+use lib.ListN.{length, getD, take, drop, length-drop, drop-of-length-le}
 use lib.Seq.{drop-drop, getD-drop}
 use lib.Dec.{leb}
 use borrow.Author.Tests.{le-leb, lt-leb}
 use Rattle.link.specs.Link.{Packet, Queue, withPacket}
-use Rattle.link.specs.Store.{marked, layoutPackets, layoutRest, layout, markAt, isLength, withFront, parseWaiting, packetsIn, withRest, parse, isSome, isWhole}
+use Rattle.link.specs.Store.{marked, layoutPackets, layout, markAt, isLength, withFront, parseWaiting, packetsIn, withRest, parse, isSome, isWhole}
 
 -- a mark that is written is read back
 pub mark-back : (mark : ℕ) (bytes : List ℕ) → markAt (marked mark bytes) ≡ mark
 mark-back mark bytes = div-add-mod' mark 256
-
--- ---- the bytes used
-
-abbrev pub usedWaiting : List Packet → ℕ
-usedWaiting [] = 0
-usedWaiting (p ∷ ps) = 2 + length p + usedWaiting ps
-
-abbrev pub usedRest : Option (List ℕ) → ℕ
-usedRest none = 0
-usedRest (some r) = 2 + length r
-
-length-waiting : (ps : List Packet) → length (layoutPackets ps) ≡ usedWaiting ps
-length-waiting [] = refl
-length-waiting (p ∷ ps) = rw (length-append, length-waiting ps) (omega arith)
-
-pub length-layout : (q : Queue) → length (layout q) ≡ usedRest (q .rest) + usedWaiting (q .waiting)
-unfolding layout
-length-layout q = go (q .rest)
-  where
-    go : (rest : Option (List ℕ)) → length (layoutRest rest ++ layoutPackets (q .waiting)) ≡ usedRest rest + usedWaiting (q .waiting)
-    go none = rw length-waiting (omega arith)
-    go (some r) = rw (length-append, length-waiting) (omega arith)
 
 -- ---- putting: the mark and the packet stand behind all others
 

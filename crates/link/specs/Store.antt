@@ -1,5 +1,6 @@
--- The queue as bytes (01, "Queue"): from byte 0 on, for each packet a mark of two bytes, high byte first, and its unsent bytes. Bit 15 of a mark tells that the
--- packet is begun, and may be set on the front packet only; the rest of the mark is the length. (Not to be mixed up with the marks of `Ledger`.)
+-- The queue as bytes (01, "Queue"): in order, for each packet a mark of two bytes, high byte first, and its unsent bytes. Bit 15 of a mark tells that the
+-- packet is begun, and may be set on the front packet only; the rest of the mark is the length. (Not to be mixed up with the marks of `Ledger`.) Where these
+-- bytes stand in the sender's ring is `usedIn`, crates/marks/specs/Queue.antt.
 use mathlib.Core.Bool.{Bool, true, false, cond, _&&_}
 use mathlib.Core.Option.{Option, none, some}
 use mathlib.Core.List.{List, [], _∷_, _++_}

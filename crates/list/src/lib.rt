@@ -27,7 +27,7 @@ fn length_at(list: &[u8], position: usize) -> usize
         return 0;
     }
     let length = marks::mark_at(list, position);
-    if !marks::is_length(list, position, length, 9000) {
+    if !marks::is_length(list.len(), position, length, 9000) {
         return 0;
     }
     length

@@ -1,2 +1,4 @@
 pub mod Walk
 pub mod Parsed
+pub mod Used
+pub mod Round

@@ -7,12 +7,11 @@ use Prim.Native.Nat.{ℕ, _+_, _-_, _≤_, _<_}
 use native.Mathlib.Omega.{arith}
 use native.Mathlib.Decide.{decLe}
 use lib.Dec.{leb, eqb}
-use lib.ListN.{length, take}
+use lib.ListN.{length}
 use borrow.Author.Tests.{ne-eqb, leb-true, lt-leb, le-leb}
 use Rattle.basics.proofs.Tests.{lt-or-ge, left-true, right-true}
 use Rattle.link.proofs.Store.{markFrom, isLengthFrom, wholeFrom, whole-step, whole-front, whole-begun, whole-end}
 use Rattle.link.specs.Store.{isWhole}
-use Rattle.marks.specs.Queue.{isUsedWhole}
 
 and-false : (a : Bool) → (a && false) ≡ false
 and-false true = refl
@@ -80,7 +79,3 @@ module _ (bytes : List ℕ) (mark : ℕ) (e : mark ≡ markFrom bytes 0) where
 
   pub begun-good : 32768 ≤ mark → isLengthFrom 8999 (mark - 32768) bytes 0 ≡ true → isWhole bytes ≡ wholeFrom bytes (2 + (mark - 32768))
   begun-good h t = whole-begun bytes (omega arith) ∙ rw (← e, t)
-
-pub used-within : (queue : List ℕ) (used : ℕ) → isUsedWhole queue used ≡ true → used ≤ 32768
-unfolding isUsedWhole
-used-within queue used e = leb-true used 32768 (left-true (leb used 32768) (isWhole (take used queue)) e)

@@ -1,16 +1,22 @@
--- The queue's used bytes (01, "Queue"): whether they stand for waiting packets, and for which.
+-- The queue in its ring (01, "Queue"; 02, M-105): where its used bytes stand, whether they stand for waiting packets and for which, and where they begin once
+-- some are freed.
 use mathlib.Core.Bool.{Bool, _&&_}
 use mathlib.Core.Option.{Option, none, some}
 use mathlib.Core.List.{List}
-use Prim.Native.Nat.{ℕ}
-use lib.Dec.{leb}
+use Prim.Native.Nat.{ℕ, _+_, _-_, _%_}
+use lib.Dec.{ltb, leb}
 use lib.ListN.{take}
 use Rattle.link.specs.Link.{Queue, empty}
 use Rattle.link.specs.Store.{parse, isWhole}
+use Rattle.ring.specs.Ring.{roundFrom}
 
--- the used bytes of a queue of 32,768 stand for waiting packets (otherwise refusal 3); the bytes behind them are not looked at
-unfoldable pub isUsedWhole : List ℕ → ℕ → Bool
-isUsedWhole queue used = leb used 32768 && isWhole (take used queue)
+-- the used bytes, in order: byte i of them stands at (start + i) modulo 32,768 (`waiting-byte` in proofs/Used.antt)
+abbrev pub usedIn : List ℕ → ℕ → ℕ → List ℕ
+usedIn queue start used = take used (roundFrom start queue)
+
+-- start and count are those of a ring of 32,768, and its used bytes stand for waiting packets (otherwise refusal 3); the others are not looked at
+unfoldable pub isRingWhole : List ℕ → ℕ → ℕ → Bool
+isRingWhole queue start used = ltb start 32768 && leb used 32768 && isWhole (usedIn queue start used)
 
 -- the queue that bytes stand for; where they stand for none a call is refused, and the empty one is not used
 abbrev pub orEmpty : Option Queue → Queue
@@ -19,3 +25,11 @@ orEmpty (some queue) = queue
 
 unfoldable pub queueIn : List ℕ → Queue
 queueIn bytes = orEmpty (parse bytes)
+
+-- the packets that wait in the ring, in order
+abbrev pub waitingIn : List ℕ → ℕ → ℕ → Queue
+waitingIn queue start used = queueIn (usedIn queue start used)
+
+-- the start once `left` of the used bytes still wait: it moves on by what was freed, round, and is never put back
+abbrev pub startAfter : ℕ → ℕ → ℕ → ℕ
+startAfter start used left = (start + (used - left)) % 32768

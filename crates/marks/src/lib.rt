@@ -1,4 +1,5 @@
-// Marks: the two bytes, high byte first, before a packet in the queue and in the list and before a record in an area. And whether the queue's bytes are whole, judged mark by mark.
+// Marks: the two bytes, high byte first, before a packet in the queue and in the list and before a record in an area. And whether the queue's ring is whole,
+// judged mark by mark.
 ghost use mathlib.Core.Path.{_≡_};
 ghost use mathlib.Core.Bool.{_&&_};
 ghost use mathlib.Core.List.{[]};
@@ -6,7 +7,8 @@ ghost use Prim.Native.Nat.{_+_, _*_, _≤_, _<_};
 ghost use lib.Dec.{leb};
 ghost use lib.ListN.{length, getD, drop};
 ghost use Rattle.link.specs.Store.{marked, packetsIn, isSome, isWhole};
-ghost use Rattle.marks.specs.Queue.{isUsedWhole};
+ghost use Rattle.ring.specs.Ring.{roundFrom};
+ghost use Rattle.marks.specs.Queue.{usedIn, isRingWhole};
 
 // The two bytes of a mark, high byte first.
 pub fn bytes_of(mark: usize) -> [u8; 2]
@@ -16,7 +18,7 @@ pub fn bytes_of(mark: usize) -> [u8; 2]
     [(mark / 256) as u8, (mark % 256) as u8]
 }
 
-// The mark at an index, high byte first.
+// The mark at an index.
 pub fn mark_at(bytes: &[u8], at: usize) -> usize
     requires { ⌜ at + 2 ≤ length (now bytes) ⌝ }
     ensures { λ r. ⌜ r ≡ getD (now (bytes .entry)) at 0 * 256 + getD (now (bytes .entry)) (at + 1) 0 ⌝ }
@@ -24,16 +26,32 @@ pub fn mark_at(bytes: &[u8], at: usize) -> usize
     number_of(bytes[at], bytes[at + 1])
 }
 
+// The mark that stands in a ring, `at` bytes behind its start. The end of the buffer may part its two bytes.
+pub fn mark_round(queue: &[u8], start: usize, at: usize) -> usize
+    requires { ⌜ (start ≤ length (now queue)) × (at + 2 ≤ length (now queue)) ⌝ }
+    ensures { λ r. ⌜ r ≡ getD (roundFrom start (now (queue .entry))) at 0 * 256 + getD (roundFrom start (now (queue .entry))) (at + 1) 0 ⌝ }
+{
+    let near = queue.len() - start; // from the start to the buffer's end
+    if at + 1 < near {
+        return mark_at(queue, start + at);
+    }
+    if near <= at {
+        return mark_at(queue, at - near);
+    }
+    number_of(queue[start + at], queue[0])
+}
+
+// The number of two bytes, high byte first.
 fn number_of(high: u8, low: u8) -> usize
     ensures { λ r. ⌜ r ≡ high * 256 + low ⌝ }
 {
     (high as usize) * 256 + low as usize
 }
 
-// Whether a length is 1 to `most`, and as many bytes stand behind the mark at an index.
-pub fn is_length(bytes: &[u8], at: usize, n: usize, most: usize) -> bool
-    requires { ⌜ at + 2 ≤ length (now bytes) ⌝ }
-    ensures { λ r. ⌜ r ≡ (leb 1 n && leb n most && leb (at + 2 + n) (length (now (bytes .entry)))) ⌝ }
+// Whether a length is 1 to `most`, and as many of `total` bytes stand behind the mark at an index.
+pub fn is_length(total: usize, at: usize, n: usize, most: usize) -> bool
+    requires { ⌜ at + 2 ≤ total ⌝ }
+    ensures { λ r. ⌜ r ≡ (leb 1 n && leb n most && leb (at + 2 + n) total) ⌝ }
 {
     if n < 1 {
         return false;
@@ -41,20 +59,21 @@ pub fn is_length(bytes: &[u8], at: usize, n: usize, most: usize) -> bool
     if most < n {
         return false;
     }
-    n <= bytes.len() - at - 2
+    n <= total - at - 2
 }
 
-// Whether there are packets from an index to the end, none of them begun.
-fn are_packets(bytes: &[u8], start: usize) -> bool
-    ensures { λ r. ⌜ r ≡ isSome (packetsIn (drop start (now (bytes .entry)))) ⌝ }
+// Whether there are packets from an index to the end of the used bytes, none of them begun.
+fn are_packets(queue: &[u8], start: usize, used: usize, behind: usize) -> bool
+    requires { ⌜ (start ≤ length (now queue)) × (used ≤ length (now queue)) ⌝ }
+    ensures { λ r. ⌜ r ≡ isSome (packetsIn (drop behind (usedIn (now (queue .entry)) start used))) ⌝ }
 {
-    let mut at = start;
-    while at < bytes.len() {
-        if bytes.len() - at < 2 {
+    let mut at = behind;
+    while at < used {
+        if used - at < 2 {
             return false;
         }
-        let n = mark_at(bytes, at);
-        if !is_length(bytes, at, n, 9000) {
+        let n = mark_round(queue, start, at);
+        if !is_length(used, at, n, 9000) {
             return false;
         }
         at = at + 2 + n;
@@ -62,31 +81,35 @@ fn are_packets(bytes: &[u8], start: usize) -> bool
     true
 }
 
-// Whether the bytes stand for waiting packets; only the front one may be begun.
-fn is_whole(bytes: &[u8]) -> bool
-    ensures { λ r. ⌜ r ≡ isWhole (now (bytes .entry)) ⌝ }
+// Whether the used bytes stand for waiting packets; only the front one may be begun.
+fn is_whole(queue: &[u8], start: usize, used: usize) -> bool
+    requires { ⌜ (start ≤ length (now queue)) × (used ≤ length (now queue)) ⌝ }
+    ensures { λ r. ⌜ r ≡ isWhole (usedIn (now (queue .entry)) start used) ⌝ }
 {
-    if bytes.len() < 2 {
-        return bytes.len() == 0;
+    if used < 2 {
+        return used == 0;
     }
-    let mark = mark_at(bytes, 0);
+    let mark = mark_round(queue, start, 0);
     if mark < 32768 {
-        return are_packets(bytes, 0);
+        return are_packets(queue, start, used, 0);
     }
     let n = mark - 32768;
-    if !is_length(bytes, 0, n, 8999) {
+    if !is_length(used, 0, n, 8999) {
         return false;
     }
-    are_packets(bytes, 2 + n)
+    are_packets(queue, start, used, 2 + n)
 }
 
-// Whether the used bytes of the queue stand for waiting packets (otherwise refusal 3).
-pub fn is_used_whole(queue: &[u8], used: usize) -> bool
+// Whether a start and a count are those of a ring, judged before any sum is made of them, and its used bytes stand for waiting packets (otherwise refusal 3).
+pub fn is_ring_whole(queue: &[u8], start: usize, used: usize) -> bool
     requires { ⌜ length (now queue) ≡ 32768 ⌝ }
-    ensures { λ r. ⌜ r ≡ isUsedWhole (now (queue .entry)) used ⌝ }
+    ensures { λ r. ⌜ r ≡ isRingWhole (now (queue .entry)) start used ⌝ }
 {
+    if 32768 <= start {
+        return false;
+    }
     if 32768 < used {
         return false;
     }
-    is_whole(&queue[..used])
+    is_whole(queue, start, used)
 }

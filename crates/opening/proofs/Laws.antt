@@ -3,11 +3,9 @@ use mathlib.Core.Path.{_≡_, ap, _∙_}
 use mathlib.Core.List.{List}
 use mathlib.Core.Bool.{true, _&&_}
 use Prim.Native.Nat.{ℕ, _-_, _≤_}
-use native.Mathlib.Nat.{le-of-eq}
 use borrow.Author.Tests.{eqb-true, leb-true, eq-eqb, le-leb}
 use lib.Dec.{eqb, leb, lit<}
 use lib.ListN.{length, take, drop, length-drop}
-use lib.Seq.{take-all}
 use Rattle.basics.specs.Lists.{same}
 use Rattle.basics.proofs.Tests.{left-true, right-true, same-true, same-self}
 use Rattle.lent.proofs.Outcome.{accepted, gate, refused-by}
@@ -19,10 +17,6 @@ use Rattle.opening.specs.Opening.{unscrambled, outerRefusal, innerRefusa
 pub unscrambled-length : (taps : ℕ) (frame : List ℕ) → length frame ≡ 2081 → length (unscrambled taps frame) ≡ 2072
 unfolding unscrambled
 unscrambled-length taps frame e = scrambled-length taps (drop 9 frame) ∙ length-drop 9 frame ∙ ap (λ (n : ℕ). n - 9) e
-
--- a part up to the end
-pub rest : (n : ℕ) (l : List ℕ) → take (length l - n) (drop n l) ≡ drop n l
-rest n l = take-all (length l - n) (drop n l) (le-of-eq (length-drop n l))
 
 -- ---- the two numbers that `open` goes by
 

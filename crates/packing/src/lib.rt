@@ -1,11 +1,9 @@
-// The bench's own packing: reading the records of a DATA area and writing one. What an area may hold is `Allowed` in specs/Rules.antt, what a frame takes from the queue `fill`.
+// The bench's own packing: reading the records of a DATA area. What an area may hold is `Allowed` in specs/Rules.antt, what a frame takes from the queue `fill`;
+// crate filling writes that.
 ghost use mathlib.Core.Path.{_≡_};
-ghost use mathlib.Core.Bool.{cond};
-ghost use Prim.Native.Nat.{_+_, _≤_, _<_};
+ghost use Prim.Native.Nat.{_+_, _<_};
 ghost use lib.ListN.{length, drop};
-ghost use Rattle.lent.specs.Written.{written};
 ghost use Rattle.link.specs.Store.{isSome};
-ghost use Rattle.packing.specs.Rules.{recordBytes};
 ghost use Rattle.packing.specs.Reading.{allZero, endAt, recordAt, read};
 
 // A record: the marks of its piece, and where its bytes stand in the area.
@@ -73,25 +71,6 @@ pub fn record_at(area: &[u8], at: usize) -> Found
         });
     }
     Found::Against
-}
-
-// Writes a record: its mark, and the bytes of its piece.
-pub fn write_record(area: &mut [u8], at: usize, first: bool, last: bool, bytes: &[u8])
-    requires { ⌜ (at + 2 + length (now bytes) ≤ length (now area)) × (length (now bytes) < 2048) ⌝ }
-    ensures { λ _. ⌜ now (area .exit) ≡ written (now (area .entry)) at (recordBytes (record { first = first; last = last; bytes = now (bytes .entry) })) ⌝ }
-{
-    let mark = value_of(first, 32768) + value_of(last, 16384) + bytes.len();
-    let mark_bytes = marks::bytes_of(mark);
-    lent::write_at(area, at, &mark_bytes);
-    lent::write_at(area, at + 2, bytes);
-}
-
-// A mark's bit, as a number.
-fn value_of(set: bool, value: usize) -> usize
-    ensures { λ r. ⌜ r ≡ cond set value 0 ⌝ }
-    ensures small { λ r. ⌜ r ≤ value ⌝ }
-{
-    if set { value } else { 0 }
 }
 
 // Where the records end, all bytes are 0, and a record stands before.

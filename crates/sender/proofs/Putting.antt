@@ -1,56 +1,61 @@
 -- What a put that is not refused may lean on; any two outcomes of `put` are equal; and what putting does to the queue that the bytes stand for (demand 3).
 use mathlib.Core.Path.{_≡_, refl, sym, ap, _∙_}
 use mathlib.Core.Bool.{Bool, true, false, cond, _&&_}
-use mathlib.Core.List.{List, [], _∷_, _++_}
-use Prim.Native.Nat.{ℕ, _+_, _/_, _%_, _≤_}
+use mathlib.Core.Logic.{_⊎_, inl, inr, ⊎-elim}
+use mathlib.Core.List.{List, [], _++_}
+use Prim.Native.Nat.{ℕ, _+_, _%_, _≤_, _<_}
 use native.Mathlib.Omega.{arith}
 use lib.Dec.{eqb, leb}
-use lib.ListN.{length, take}
+use lib.ListN.{length, getD, take}
 use borrow.Author.Tests.{eqb-true, leb-true}
 use Rattle.basics.specs.Lists.{Bytes}
+use Rattle.basics.proofs.Lists.{bytes-take}
 use Rattle.basics.proofs.Tests.{left-true, right-true}
 use Rattle.lent.specs.Outcome.{by}
 use Rattle.lent.specs.Written.{written}
 use Rattle.lent.proofs.Outcome.{gate, accepted, numbered}
-use Rattle.lent.proofs.Written.{written-append, take-written, bytes-written}
+use Rattle.lent.proofs.Written.{take-written}
 use Rattle.link.specs.Link.{IsPacket, Queue, withPacket}
 use Rattle.link.specs.Store.{marked, parse}
 use Rattle.link.proofs.RoundTrip.{parse-put}
+use Rattle.ring.specs.Ring.{roundFrom, ringWritten}
+use Rattle.ring.proofs.Laws.{round-length, round-bytes, ring-append, ring-read, ring-bytes}
+use Rattle.ring.proofs.Places.{round-keeps}
+use Rattle.marks.specs.Queue.{usedIn, isRingWhole}
+use Rattle.marks.proofs.Used.{ring-passed}
 use Rattle.sender.specs.declared.Sender.{Sender}
 use Rattle.sender.specs.declared.PutAnswer.{PutAnswer}
 use Rattle.sender.specs.declared.PutAnswer.the-variants.{Taken, Refused}
-use Rattle.marks.specs.Queue.{isUsedWhole}
 use Rattle.sender.specs.Put.{putRefusal, putSender, putBytes, putNumber, putAnswer, PutOutcome}
-use Rattle.basics.proofs.Lists.{bytes-take}
 use Rattle.sender.proofs.Stands.{Stands}
 
-pub record PutPassed (queue : List ℕ) (used : ℕ) (packet : List ℕ) : Type 0 where
+pub record PutPassed (queue : List ℕ) (start used : ℕ) (packet : List ℕ) : Type 0 where
   pub long : length queue ≡ 32768
-  pub whole : isUsedWhole queue used ≡ true
+  pub within : start < 32768
   pub least : 1 ≤ length packet
   pub most : length packet ≤ 9000
   pub room : used + 2 + length packet ≤ 32768
 
-pub put-passed : (queue : List ℕ) (used : ℕ) (packet : List ℕ) → putRefusal queue used packet ≡ 0 → PutPassed queue used packet
+pub put-passed : (queue : List ℕ) (start used : ℕ) (packet : List ℕ) → putRefusal queue start used packet ≡ 0 → PutPassed queue start used packet
 unfolding putRefusal
-put-passed queue used packet e =
+put-passed queue start used packet e =
     let size = gate (eqb (length queue) 32768) _ 2 (omega arith) e in
-    let whole = gate (isUsedWhole queue used) _ 3 (omega arith) (size .1) in
+    let whole = gate (isRingWhole queue start used) _ 3 (omega arith) (size .1) in
     let fits = gate (leb 1 (length packet) && leb (length packet) 9000) _ 4 (omega arith) (whole .1) in
     let room = gate (leb (used + 2 + length packet) 32768) 0 5 (omega arith) (fits .1) in
     record {
       long = eqb-true (length queue) 32768 (size .0);
-      whole = whole .0;
+      within = ring-passed queue start used (whole .0) .within;
       least = leb-true 1 (length packet) (left-true (leb 1 (length packet)) (leb (length packet) 9000) (fits .0));
       most = leb-true (length packet) 9000 (right-true (leb 1 (length packet)) (leb (length packet) 9000) (fits .0));
       room = leb-true (used + 2 + length packet) 32768 (room .0);
     }
 
 -- the mark is written, then the packet
-pub put-written : {queue : List ℕ} {used : ℕ} {packet : List ℕ} → PutPassed queue used packet
-    → written (written queue used (length packet / 256 ∷ length packet % 256 ∷ [])) (used + 2) packet ≡ putBytes queue used packet
-put-written {queue} {used} {packet} p =
-    written-append queue used (length packet / 256 ∷ length packet % 256 ∷ []) packet (omega (arith, p .long, p .room))
+pub put-written : {queue : List ℕ} {start used : ℕ} {packet : List ℕ} → PutPassed queue start used packet
+    → ringWritten (ringWritten queue start used (marked (length packet) [])) start (used + 2) packet ≡ putBytes queue start used packet
+put-written {queue} {start} {used} {packet} p =
+    ring-append queue start used (marked (length packet) []) packet (omega (arith, p .long, p .within)) (omega (arith, p .long, p .room))
 
 -- the answer's number is the one that it was made for
 pub put-numbers : (number : ℕ) (sender : Sender) → putNumber (putAnswer number sender) ≡ number
@@ -72,25 +77,44 @@ taken-zero n after sender = go (eqb n 0) refl
     go true t e = (eqb-true n 0 t, cc)
     go false t e = let z : _≡_ {A = ℕ} 0 1 = cc in absurd (omega arith)
 
+-- Every byte that is not behind the used ones, as far as mark and packet reach, keeps its value.
+pub put-keeps : (bytes : List ℕ) (sender : Sender) (packet : List ℕ) (sender′ : Sender) (bytes′ : List ℕ) → PutOutcome bytes sender packet (Taken sender′) bytes′
+    → (i : ℕ) → i < 32768 → (i < sender .used) ⊎ (sender′ .used ≤ i) → getD bytes′ ((sender .start + i) % 32768) 0 ≡ getD bytes ((sender .start + i) % 32768) 0
+put-keeps bytes sender packet sender′ bytes′ outcome i l outside =
+    let start = sender .start in
+    let used = sender .used in
+    let number = putRefusal bytes start used packet in
+    let taken = taken-zero number sender′ (putSender sender packet) (outcome .answer) in
+    let p = put-passed bytes start used packet (taken .0) in
+    let mark = marked (length packet) packet in
+    let new : bytes′ ≡ putBytes bytes start used packet = outcome .bytes ∙ sym (accepted number number _ bytes _ refl (taken .0) refl) in
+    let count : sender′ .used ≡ used + length mark = ap (λ (s : Sender). s .used) (taken .1) ∙ omega arith in
+    ap (λ (b : List ℕ). getD b ((start + i) % 32768) 0) new
+    ∙ round-keeps bytes start used mark (p .long) (p .within) (omega (arith, p .room)) i l (⊎-elim (λ h. inl h) (λ h. inr (omega (arith, count))) outside)
+
 -- What is taken is a packet, and stands behind the others.
 pub put-stands : (bytes : List ℕ) (sender : Sender) (packet : List ℕ) (sender′ : Sender) (bytes′ : List ℕ) (i : ℕ) (queue : Queue)
     → PutOutcome bytes sender packet (Taken sender′) bytes′ → Bytes packet → Stands bytes sender i queue
     → IsPacket packet × Stands bytes′ sender′ i (withPacket queue packet)
 put-stands bytes sender packet sender′ bytes′ i queue outcome p s =
+    let start = sender .start in
     let used = sender .used in
-    let number = putRefusal bytes used packet in
+    let number = putRefusal bytes start used packet in
     let taken = taken-zero number sender′ (putSender sender packet) (outcome .answer) in
-    let passed = put-passed bytes used packet (taken .0) in
+    let passed = put-passed bytes start used packet (taken .0) in
     let is-packet : IsPacket packet = (passed .least, passed .most) in
     let mark = marked (length packet) packet in
-    let new : bytes′ ≡ putBytes bytes used packet = outcome .bytes ∙ sym (accepted number number _ bytes _ refl (taken .0) refl) in
+    let round = roundFrom start bytes in
+    let size : length round ≡ 32768 = round-length start bytes ∙ passed .long in
+    let new : bytes′ ≡ putBytes bytes start used packet = outcome .bytes ∙ sym (accepted number number _ bytes _ refl (taken .0) refl) in
     let long : used + 2 + length packet ≡ used + length mark = omega arith in
-    let front : take (used + 2 + length packet) (putBytes bytes used packet) ≡ take used bytes ++ mark =
-    ap (λ (n : ℕ). take n (putBytes bytes used packet)) long ∙ take-written bytes used mark (omega (arith, passed .long, passed .room)) in (
+    let front : usedIn (putBytes bytes start used packet) start (used + 2 + length packet) ≡ usedIn bytes start used ++ mark =
+    ap (take (used + 2 + length packet)) (ring-read bytes start used mark (omega (arith, passed .long, passed .within)) (omega (arith, passed .long, passed .room)))
+    ∙ ap (λ (n : ℕ). take n (written round used mark)) long ∙ take-written round used mark (omega (arith, size, passed .room)) in (
       is-packet,
       rw (taken .1, new) (record {
-        are-bytes = bytes-written bytes used mark (s .are-bytes) (omega (arith, passed .most), (omega arith, p));
-        parsed = ap parse front ∙ parse-put (take used bytes) queue packet (bytes-take used bytes (s .are-bytes)) (s .parsed) is-packet;
+        are-bytes = ring-bytes bytes start used mark (s .are-bytes) (omega (arith, passed .most), (omega arith, p));
+        parsed = ap parse front ∙ parse-put (usedIn bytes start used) queue packet (bytes-take used round (round-bytes start bytes (s .are-bytes))) (s .parsed) is-packet;
         number = s .number;
       }),
     )

@@ -1,10 +1,11 @@
-// The sender: packets are put into a lent queue of 32,768 bytes (01, "Queue").
+// The sender: packets are put into a lent ring of 32,768 bytes (01, "Queue"; 02, M-105).
 use counts::Txfn;
 ghost use mathlib.Core.Path.{_≡_};
 ghost use Rattle.sender.specs.Put.{freshSender, putRefusal, PutOutcome};
 
-// How many bytes of the queue are used, and the number of the next frame.
+// Where the waiting packets begin in the ring, how many of its bytes they use, and the number of the next frame.
 pub struct Sender {
+    pub start: usize,
     pub used: usize,
     pub next: Txfn,
 }
@@ -15,6 +16,7 @@ impl Sender {
         ensures { λ r. ⌜ r ≡ freshSender ⌝ }
     {
         Sender {
+            start: 0,
             used: 0,
             next: Txfn(0),
         }
@@ -26,13 +28,13 @@ pub enum PutAnswer {
     Refused(u8),
 }
 
-fn put_refusal(queue: &[u8], used: usize, packet: &[u8]) -> u8
-    ensures { λ r. ⌜ r ≡ putRefusal (now (queue .entry)) used (now (packet .entry)) ⌝ }
+fn put_refusal(queue: &[u8], start: usize, used: usize, packet: &[u8]) -> u8
+    ensures { λ r. ⌜ r ≡ putRefusal (now (queue .entry)) start used (now (packet .entry)) ⌝ }
 {
     if queue.len() != 32768 {
         return 2;
     }
-    if !marks::is_used_whole(queue, used) {
+    if !marks::is_ring_whole(queue, start, used) {
         return 3;
     }
     let length = packet.len();
@@ -52,17 +54,19 @@ fn put_refusal(queue: &[u8], used: usize, packet: &[u8]) -> u8
 pub fn put(queue: &mut [u8], sender: Sender, packet: &[u8]) -> PutAnswer
     ensures { λ r. ⌜ PutOutcome (now (queue .entry)) sender (now (packet .entry)) r (now (queue .exit)) ⌝ }
 {
+    let start = sender.start;
     let used = sender.used;
-    let number = put_refusal(queue, used, packet);
+    let number = put_refusal(queue, start, used, packet);
     if number != 0 {
         return PutAnswer::Refused(number);
     }
     let length = packet.len();
     let mark = marks::bytes_of(length);
-    lent::write_at(queue, used, &mark);
-    lent::write_at(queue, used + 2, packet);
+    ring::write_at(queue, start, used, &mark);
+    ring::write_at(queue, start, used + 2, packet);
     let next = sender.next;
     PutAnswer::Taken(Sender {
+        start,
         used: used + 2 + length,
         next,
     })

@@ -1,2 +1,4 @@
+pub mod Left
+pub mod Ring
 pub mod Sending
 pub mod Carried

@@ -1,16 +1,17 @@
--- What a frame that is not refused may lean on, how filling and settling meet the contract of `next_frame`, and that any two of its outcomes are equal.
-use mathlib.Core.Path.{_≡_, refl, sym, ap, _∙_}
-use mathlib.Core.Bool.{true, cond, _&&_}
+-- What a frame that is not refused may lean on, how filling and freeing meet the contract of `next_frame`, and that any two of its outcomes are equal.
+use mathlib.Core.Path.{_≡_, refl, sym, ap, subst, _∙_}
+use mathlib.Core.Bool.{Bool, true, false, cond, _&&_}
 use mathlib.Core.Option.{Option, none, some}
 use mathlib.Core.List.{List, [], _∷_, _++_}
-use Prim.Native.Nat.{ℕ, _≤_}
+use Prim.Native.Nat.{ℕ, _≤_, _<_}
 use native.Mathlib.Omega.{arith}
 use lib.Dec.{eqb, leb}
-use lib.ListN.{length, take, drop}
-use lib.Seq.{length-take-le}
+use lib.ListN.{length, drop}
 use borrow.Author.Tests.{eqb-true, leb-true, eq-eqb, ne-eqb}
 use Rattle.basics.specs.Lists.{Bytes}
+use Rattle.basics.proofs.Lists.{bytes-take}
 use Rattle.basics.proofs.Tests.{left-true, right-true}
+use Rattle.lent.specs.Outcome.{by}
 use Rattle.lent.proofs.Outcome.{gate, numbered}
 use Rattle.link.specs.Link.{Packet, Queue, Cut}
 use Rattle.link.specs.Store.{layoutRest, layoutPackets, layout, isWhole}
@@ -23,37 +24,44 @@ use Rattle.header.specs.declared.Fields.{Fields}
 use Rattle.counts.specs.declared.Txfn.{Txfn}
 use Rattle.header.specs.declared.FrameKind.{FrameKind}
 use Rattle.header.specs.declared.FrameKind.the-variants.{Idle, Data}
-use Rattle.marks.specs.Queue.{isUsedWhole, queueIn}
+use Rattle.ring.specs.Ring.{roundFrom}
+use Rattle.ring.proofs.Laws.{round-bytes}
+use Rattle.marks.specs.Queue.{usedIn, isRingWhole, waitingIn}
+use Rattle.marks.proofs.Used.{used-length, ring-passed}
 use Rattle.marks.proofs.Parsed.{whole-parsed}
-use Rattle.sending.specs.Next.{kindFor, areaFor, leftIn, nextRefusal, nextNumber, nextAnswer, NextOutcome}
-use Rattle.filling.specs.Filling.{remaining, FillOutcome}
+use Rattle.filling.specs.Filling.{remaining, FillOutcome, Freed}
+use Rattle.filling.specs.declared.Filled.{Filled}
+use Rattle.filling.specs.declared.Left.{Left}
 use Rattle.sender.specs.declared.Sender.{Sender}
+use Rattle.sending.specs.Next.{kindFor, areaFor, leftIn, nextRefusal, nextNumber, nextAnswer, NextOutcome}
 use Rattle.sending.specs.declared.NextAnswer.{NextAnswer}
 use Rattle.sending.specs.declared.NextAnswer.the-variants.{Sent, Refused}
-use Rattle.filling.specs.declared.Filled.{Filled}
-use Rattle.basics.proofs.Lists.{bytes-take}
 
-pub record NextPassed (taps : ℕ) (fields : Fields) (used : ℕ) (queue out : List ℕ) : Type 0 where
+pub record NextPassed (taps : ℕ) (fields : Fields) (start used : ℕ) (queue out : List ℕ) : Type 0 where
   pub allowed : tapsAllowed taps ≡ true
   pub long : length queue ≡ 32768
   pub room : 2081 ≤ length out
-  pub within : used ≤ 32768
-  pub whole : isWhole (take used queue) ≡ true
+  pub within : start < 32768
+  pub most : used ≤ 32768
+  pub whole : isWhole (usedIn queue start used) ≡ true
   pub fits : fieldsFit fields ≡ true
 
-pub next-passed : (taps : ℕ) (fields : Fields) (used : ℕ) (queue out : List ℕ) → nextRefusal taps fields used queue out ≡ 0 → NextPassed taps fields used queue out
-unfolding nextRefusal isUsedWhole
-next-passed taps fields used queue out e =
+pub next-passed : (taps : ℕ) (fields : Fields) (start used : ℕ) (queue out : List ℕ) → nextRefusal taps fields start used queue out ≡ 0
+    → NextPassed taps fields start used queue out
+unfolding nextRefusal
+next-passed taps fields start used queue out e =
     let allowed = gate (tapsAllowed taps) _ 1 (omega arith) e in
     let sizes = gate (eqb (length queue) 32768 && leb 2081 (length out)) _ 2 (omega arith) (allowed .1) in
-    let whole = gate (leb used 32768 && isWhole (take used queue)) _ 3 (omega arith) (sizes .1) in
+    let whole = gate (isRingWhole queue start used) _ 3 (omega arith) (sizes .1) in
     let fits = gate (fieldsFit fields) 0 6 (omega arith) (whole .1) in
+    let ring = ring-passed queue start used (whole .0) in
     record {
       allowed = allowed .0;
       long = eqb-true (length queue) 32768 (left-true (eqb (length queue) 32768) (leb 2081 (length out)) (sizes .0));
       room = leb-true 2081 (length out) (right-true (eqb (length queue) 32768) (leb 2081 (length out)) (sizes .0));
-      within = leb-true used 32768 (left-true (leb used 32768) (isWhole (take used queue)) (whole .0));
-      whole = right-true (leb used 32768) (isWhole (take used queue)) (whole .0);
+      within = ring .within;
+      most = ring .most;
+      whole = ring .whole;
       fits = fits .0;
     }
 
@@ -80,32 +88,49 @@ busy-kind q used = go (q .rest) (q .waiting)
     go none (p ∷ ps) e = rw (ne-eqb used 0 (λ z. omega arith))
     go (some rest) ps e = rw (ne-eqb used 0 (λ z. omega arith))
 
-module _ {taps : ℕ} {fields : Fields} {used : ℕ} {queue out : List ℕ} (p : NextPassed taps fields used queue out) where
-  abbrev waiting : Queue
-  waiting = queueIn (take used queue)
+module _ {taps : ℕ} {fields : Fields} {start used : ℕ} {queue out : List ℕ} (p : NextPassed taps fields start used queue out) where
+  abbrev bytes : List ℕ
+  bytes = usedIn queue start used
 
-  pub used-length : length (take used queue) ≡ used
-  used-length = length-take-le used queue (omega (arith, p .within, p .long))
+  abbrev waiting : Queue
+  waiting = waitingIn queue start used
+
+  pub used-is : length bytes ≡ used
+  used-is = used-length queue start used (omega (arith, p .most, p .long))
 
   pub kind-is : Bytes queue → cond (eqb used 0) Idle Data ≡ kindFor waiting
   kind-is b =
-      let is = layout-back (take used queue) waiting (bytes-take used queue b) (whole-parsed (take used queue) (p .whole)) in
-      busy-kind waiting used (sym (ap length is ∙ used-length))
+      let is = layout-back bytes waiting (bytes-take used (roundFrom start queue) (round-bytes start queue b)) (whole-parsed bytes (p .whole)) in
+      busy-kind waiting used (sym (ap length is ∙ used-is))
 
-  module _ {filled : Filled} {after : List ℕ} (o : FillOutcome (take used queue) filled after) where
+  module _ {filled : Filled} {after : List ℕ} (o : FillOutcome bytes filled after) where
     pub area-is : after ≡ areaFor waiting
     area-is = o .filled ∙ idle-area waiting
 
-    pub rest-is : remaining (filled .unsent) (drop (filled .start) (take used queue)) ≡ layout (leftIn waiting)
-    rest-is =
-        sym (o .rest) ∙ ap (λ (c : Cut). layout (c .left)) (fill-cut waiting (parse-queue (take used queue) waiting (whole-parsed (take used queue) (p .whole))))
+    pub rest-is : remaining (filled .unsent) (drop (filled .stop) bytes) ≡ layout (leftIn waiting)
+    rest-is = sym (o .rest) ∙ ap (λ (c : Cut). layout (c .left)) (fill-cut waiting (parse-queue bytes waiting (whole-parsed bytes (p .whole))))
 
-    pub start-within : filled .start ≤ used
-    start-within = omega (arith, o .inside, used-length)
+    pub stop-within : filled .stop ≤ used
+    stop-within = omega (arith, o .inside, used-is)
+
+    -- what freeing did, of the queue that is left
+    pub freed-is : {left : Left} {queue′ : List ℕ} → Freed queue start used (remaining (filled .unsent) (drop (filled .stop) bytes)) left queue′
+        → Freed queue start used (layout (leftIn waiting)) left queue′
+    freed-is {left} {queue′} f = subst (λ (rest : List ℕ). Freed queue start used rest left queue′) rest-is f
 
 -- the answer's number is the one that it was made for
 pub next-numbers : (number : ℕ) (sender : Sender) (kind : FrameKind) → nextNumber (nextAnswer number sender kind) ≡ number
 next-numbers number sender kind = numbered nextNumber (Sent sender kind) (λ n. Refused n) refl (λ n. refl) number
+
+-- the answer tells that a frame was sent
+pub sent-so : (number : ℕ) (after sender : Sender) (kind kind′ : FrameKind) → Sent after kind ≡ nextAnswer number sender kind′
+    → (number ≡ 0) × (after ≡ sender) × (kind ≡ kind′)
+unfolding by
+sent-so number after sender kind kind′ = go (eqb number 0) refl
+  where
+    go : (test : Bool) → eqb number 0 ≡ test → Sent after kind ≡ cond test (Sent sender kind′) (Refused number) → (number ≡ 0) × (after ≡ sender) × (kind ≡ kind′)
+    go true t e = (eqb-true number 0 t, cc, cc)
+    go false t e = let z : _≡_ {A = ℕ} 0 1 = cc in absurd (omega arith)
 
 -- Any two outcomes that the contract of `next_frame` admits are equal.
 pub next-frame-one : (taps : ℕ) (fields : Fields) (sender : Sender) (queue out : List ℕ) (r₁ r₂ : NextAnswer) (queue₁ queue₂ out₁ out₂ : List ℕ)
@@ -115,6 +140,6 @@ next-frame-one taps fields sender queue out r₁ r₂ queue₁ queue₂ out₁ o
     (x .answer ∙ sym (y .answer), x .bytes ∙ sym (y .bytes), x .frame ∙ sym (y .frame))
 
 -- an answer, part by part
-pub sent-path : {used used′ : ℕ} {next : Txfn} {count : ℕ} {kind kind′ : FrameKind} → used ≡ used′ → next .0 ≡ count → kind ≡ kind′
-    → Sent (record { used = used; next = next }) kind ≡ Sent (record { used = used′; next = record { 0 = count } }) kind′
-sent-path p q r i = Sent (record { used = p i; next = record { 0 = q i } }) (r i)
+pub sent-path : {start start′ used used′ : ℕ} {next : Txfn} {count : ℕ} {kind kind′ : FrameKind} → start ≡ start′ → used ≡ used′ → next .0 ≡ count → kind ≡ kind′
+    → Sent (record { start = start; used = used; next = next }) kind ≡ Sent (record { start = start′; used = used′; next = record { 0 = count } }) kind′
+sent-path o p q r i = Sent (record { start = o i; used = p i; next = record { 0 = q i } }) (r i)

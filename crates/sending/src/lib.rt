@@ -1,4 +1,4 @@
-// The next frame: what waits in the queue goes out frame by frame (01, "Next frame").
+// The next frame: what waits in the ring goes out frame by frame (01, "Next frame"; 02, M-105).
 use header::Fields;
 use header::FrameKind;
 use header::Header;
@@ -14,8 +14,15 @@ pub enum NextAnswer {
     Refused(u8),
 }
 
-fn next_refusal(taps: u32, fields: Fields, used: usize, queue: &[u8], out: &[u8]) -> u8
-    ensures { λ r. ⌜ r ≡ nextRefusal taps fields used (now (queue .entry)) (now (out .entry)) ⌝ }
+fn next_refusal(
+    taps: u32,
+    fields: Fields,
+    start: usize,
+    used: usize,
+    queue: &[u8],
+    out: &[u8],
+) -> u8
+    ensures { λ r. ⌜ r ≡ nextRefusal taps fields start used (now (queue .entry)) (now (out .entry)) ⌝ }
 {
     if !scrambler::are_taps(taps) {
         return 1;
@@ -26,7 +33,7 @@ fn next_refusal(taps: u32, fields: Fields, used: usize, queue: &[u8], out: &[u8]
     if out.len() < 2081 {
         return 2;
     }
-    if !marks::is_used_whole(queue, used) {
+    if !marks::is_ring_whole(queue, start, used) {
         return 3;
     }
     if header::coding::fields_fit(fields) {
@@ -47,7 +54,7 @@ fn kind_for(used: usize) -> FrameKind
     }
 }
 
-// Builds the next frame at the front of out, and takes what it carries off the queue. Refusals: 1, 2, 3, 6.
+// Builds the next frame at the front of out, and takes what it carries off the ring. Refusals: 1, 2, 3, 6.
 pub fn next_frame(
     taps: u32,
     fields: Fields,
@@ -57,22 +64,27 @@ pub fn next_frame(
 ) -> NextAnswer
     ensures { λ r. ⌜ NextOutcome taps fields sender (now (queue .entry)) (now (out .entry)) r (now (queue .exit)) (now (out .exit)) ⌝ }
 {
+    let start = sender.start;
     let used = sender.used;
-    let number = next_refusal(taps, fields, used, queue, out);
+    let number = next_refusal(taps, fields, start, used, queue, out);
     if number != 0 {
         return NextAnswer::Refused(number);
     }
     let mut area = [0; 1908];
-    let filled = filling::fill(&queue[..used], &mut area);
-    let start = filled.start;
+    let filled = filling::fill(queue, start, used, &mut area);
+    let stop = filled.stop;
     let unsent = filled.unsent;
-    let left = filling::settle(queue, used, start, unsent);
+    let left = filling::free_front(queue, start, used, stop, unsent);
     let txfn = sender.next;
     let kind = kind_for(used);
     frame::build(taps, Header { txfn, kind, fields }, &area, out);
     let next = txfn.next();
     NextAnswer::Sent {
-        sender: Sender { used: left, next },
+        sender: Sender {
+            start: left.start,
+            used: left.used,
+            next,
+        },
         kind,
     }
 }

@@ -1,222 +1,122 @@
-use mathlib.Core.Path.{refl, ap}
+-- The loop of `fill`: its invariant and its turns are those of Round.antt.
+use mathlib.Core.Path.{ap}
 use native.Mathlib.Omega.{arith}
 use Prim.Native.Nat.{_-_}
-use lib.ListN.{length, length-take, length-drop}
+use lib.ListN.{length}
 use Rattle.basics.proofs.Lists.{bytes-each}
-use Rattle.filling.proofs.Taking.{Filling, begins, full, reached, goes-on, cuts, ends}
+use Rattle.filling.proofs.Taking.{Reached}
+use Rattle.filling.proofs.Round.{Round, begins, ends, full, mark-room, reached, goes-on, cuts}
 use Rattle.filling.proofs.fill.Statement.{statement}
 use Rattle.filling.proofs.fill.Tie as tie
 
 abbrev Inv-loop : tie.InvT-loop
-Inv-loop bytes area₀ at₀ start₀ area at start = Filling bytes area at start
+Inv-loop queue start used area₀ at₀ from₀ area at from = Round queue start used area at from
 
 abbrev μ-loop : tie.MeasureT-loop
-μ-loop bytes area₀ at₀ start₀ area at start = length bytes - start
+μ-loop queue start used area₀ at₀ from₀ area at from = used - from
 
 loop-holds : tie.Need-loop-holds Inv-loop μ-loop
 loop-holds c =
-    let at-args = c .before .before .args in
-    let at-shared-slice-known = c .before .shared-slice-known in
-    let at-pre = c .before .before .pre in
-    begins (at-args .bytes .now) (at-args .area .now) (bytes-each (at-args .bytes .now) (λ i. omega (arith, (at-shared-slice-known .given) i))) (at-pre .0) (at-pre .1)
+    let given = c .before .before in
+    let queue = given .args .queue .now in
+    begins queue (given .args .start) (given .args .used) (given .args .area .now) (bytes-each queue (λ i. omega (arith, c .before .shared-slice-known .given i)))
+    (given .pre .1) (given .pre .2) (given .pre .3)
 
 sub-room : tie.Need-sub-room Inv-loop μ-loop
-sub-room c =
-    let at-loop = c .before .loop in
-    omega (arith, (at-loop .inv .low))
+sub-room c = omega (arith, c .before .loop .inv .filling .low)
 
 same-length : tie.Need-same-length Inv-loop μ-loop
 same-length c =
-    let at-loop = c .before .before .loop in
-    let at-pre = c .before .before .before .before .before .pre in
-    omega (arith, (at-loop .inv .long), ap length (at-pre .1))
+    let turn = c .before .before in
+    omega (arith, turn .loop .inv .filling .long, ap length (turn .before .before .before .pre .3))
 
 returns : tie.Need-returns Inv-loop μ-loop
-returns c =
-    let at-loop = c .before .before .loop in
-    let at-loop-test = c .before .loop-test in
-    let at-if1 = c .if1 in
-    full (at-loop .inv) (at-loop-test .taken) (at-if1 .taken)
+returns c = full (c .before .before .loop .inv) (c .before .loop-test .taken) (c .if1 .taken)
 
-mark-at-requires : tie.Need-mark-at-requires Inv-loop μ-loop
-mark-at-requires c κs =
-    let at-loop = c .before .before .loop in
-    let at-loop-test = c .before .loop-test in
-    let k = reached (at-loop .inv) (at-loop-test .taken) refl in omega arith
+mark-round-requires : tie.Need-mark-round-requires Inv-loop μ-loop
+mark-round-requires c κs =
+    let turn = c .before .before in
+    (turn .before .before .before .pre .0, omega (arith, mark-room (turn .loop .inv) (c .before .loop-test .taken), turn .loop .inv .inside))
+
+-- what the mark says of the front packet
+front : (c : tie.After-mark-round Inv-loop μ-loop) → Reached (c .before .before .before .loop .from) (c .before .before .before .before .before .before .args .used) (c .mark-round .result)
+front c = reached (c .before .before .before .loop .inv) (c .before .before .loop-test .taken) (c .mark-round .ensures)
 
 add-behind : tie.Need-add-behind Inv-loop μ-loop
 add-behind c =
-    let at-loop = c .before .before .before .loop in
-    let at-loop-test = c .before .before .loop-test in
-    let at-mark-at = c .mark-at in
-    let k = reached (at-loop .inv) (at-loop-test .taken) (at-mark-at .ensures) in omega arith
+    let k = front c in
+    omega arith
 
 add-if2 : tie.Need-add-if2 Inv-loop μ-loop
 add-if2 c =
-    let at-loop = c .before .before .before .loop in
-    let at-loop-test = c .before .before .loop-test in
-    let at-mark-at = c .mark-at in
-    let k = reached (at-loop .inv) (at-loop-test .taken) (at-mark-at .ensures) in omega arith
+    let k = front c in
+    omega arith
 
 sub-fitting : tie.Need-sub-fitting Inv-loop μ-loop
-sub-fitting c =
-    let at-loop = c .before .before .before .before .loop in
-    let at-loop-test = c .before .before .before .loop-test in
-    let at-mark-at = c .before .mark-at in
-    let k = reached (at-loop .inv) (at-loop-test .taken) (at-mark-at .ensures) in omega arith
-
-add-write-record : tie.Need-add-write-record Inv-loop μ-loop
-add-write-record c =
-    let at-loop = c .before .before .before .before .before .loop in
-    let at-loop-test = c .before .before .before .before .loop-test in
-    let at-mark-at = c .before .before .mark-at in
-    let k = reached (at-loop .inv) (at-loop-test .taken) (at-mark-at .ensures) in omega arith
-
-sub-write-record : tie.Need-sub-write-record Inv-loop μ-loop
-sub-write-record c =
-    let at-loop = c .before .before .before .before .before .loop in
-    let at-loop-test = c .before .before .before .before .loop-test in
-    let at-mark-at = c .before .before .mark-at in
-    let k = reached (at-loop .inv) (at-loop-test .taken) (at-mark-at .ensures) in omega arith
-
-part-write-record-start : tie.Need-part-write-record-start Inv-loop μ-loop
-part-write-record-start c =
-    let at-loop = c .before .before .before .before .before .loop in
-    let at-loop-test = c .before .before .before .before .loop-test in
-    let at-mark-at = c .before .before .mark-at in
-    let k = reached (at-loop .inv) (at-loop-test .taken) (at-mark-at .ensures) in omega arith
-
-part-write-record-end : tie.Need-part-write-record-end Inv-loop μ-loop
-part-write-record-end c =
-    let at-loop = c .before .before .before .before .before .loop in
-    let at-loop-test = c .before .before .before .before .loop-test in
-    let at-mark-at = c .before .before .mark-at in
-    let k = reached (at-loop .inv) (at-loop-test .taken) (at-mark-at .ensures) in omega arith
+sub-fitting c = omega arith
 
 write-record-requires : tie.Need-write-record-requires Inv-loop μ-loop
 write-record-requires c κs =
-    let at-loop = c .before .before .before .before .before .before .loop in
-    let at-loop-test = c .before .before .before .before .before .loop-test in
-    let at-mark-at = c .before .before .before .mark-at in
-    let k = reached (at-loop .inv) (at-loop-test .taken) (at-mark-at .ensures) in
-    (simp (length-take, length-drop) (omega (arith, (at-loop .inv .long))), simp (length-take, length-drop) (omega arith))
+    let read = c .before .before in
+    let turn = read .before .before .before in
+    let k = front read in
+    (omega (arith, turn .loop .inv .filling .long), omega arith, turn .before .before .before .pre .0, omega (arith, turn .loop .inv .inside))
 
-add-t16 : tie.Need-add-t16 Inv-loop μ-loop
-add-t16 c =
-    let at-loop = c .before .before .before .before .before .before .before .before .before .loop in
-    let at-loop-test = c .before .before .before .before .before .before .before .before .loop-test in
-    let at-mark-at = c .before .before .before .before .before .before .mark-at in
-    let k = reached (at-loop .inv) (at-loop-test .taken) (at-mark-at .ensures) in omega arith
+add-t18 : tie.Need-add-t18 Inv-loop μ-loop
+add-t18 c =
+    let k = front (c .before .before .before .before .before) in
+    omega arith
 
-sub-t18 : tie.Need-sub-t18 Inv-loop μ-loop
-sub-t18 c =
-    let at-loop = c .before .before .before .before .before .before .before .before .before .loop in
-    let at-loop-test = c .before .before .before .before .before .before .before .before .loop-test in
-    let at-mark-at = c .before .before .before .before .before .before .mark-at in
-    let k = reached (at-loop .inv) (at-loop-test .taken) (at-mark-at .ensures) in omega arith
+sub-t19 : tie.Need-sub-t19 Inv-loop μ-loop
+sub-t19 c =
+    let k = front (c .before .before .before .before .before) in
+    omega arith
 
 same-length-2 : tie.Need-same-length-2 Inv-loop μ-loop
 same-length-2 c =
-    let at-loop = c .before .before .before .before .before .before .before .before .before .loop in
-    let at-write-record = c .before .before .write-record in
-    let at-pre = c .before .before .before .before .before .before .before .before .before .before .before .before .pre in
-    omega (arith, (at-loop .inv .long), (at-write-record .kept .0), ap length (at-pre .1))
+    let turn = c .before .before .before .before .before .before .before .before in
+    omega (arith, turn .loop .inv .filling .long, c .before .before .write-record .kept .0, ap length (turn .before .before .before .pre .3))
 
 returns-2 : tie.Need-returns-2 Inv-loop μ-loop
 returns-2 c =
-    let at-loop = c .before .before .before .before .before .before .before .before .before .loop in
-    let at-loop-test = c .before .before .before .before .before .before .before .before .loop-test in
-    let at-mark-at = c .before .before .before .before .before .before .mark-at in
-    let at-if1 = c .before .before .before .before .before .before .before .if1 in
-    let at-if2 = c .before .before .before .before .before .if2 in
-    let at-write-record = c .before .before .write-record in
-    cuts (at-loop .inv) (at-loop-test .taken) (at-mark-at .ensures) (at-if1 .left) (at-if2 .taken) (at-write-record .ensures)
-
-add-write-record-2 : tie.Need-add-write-record-2 Inv-loop μ-loop
-add-write-record-2 c =
-    let at-loop = c .before .before .before .before .before .loop in
-    let at-loop-test = c .before .before .before .before .loop-test in
-    let at-mark-at = c .before .before .mark-at in
-    let k = reached (at-loop .inv) (at-loop-test .taken) (at-mark-at .ensures) in omega arith
-
-sub-write-record-2 : tie.Need-sub-write-record-2 Inv-loop μ-loop
-sub-write-record-2 c =
-    let at-loop = c .before .before .before .before .before .loop in
-    let at-loop-test = c .before .before .before .before .loop-test in
-    let at-mark-at = c .before .before .mark-at in
-    let k = reached (at-loop .inv) (at-loop-test .taken) (at-mark-at .ensures) in omega arith
-
-part-write-record-start-2 : tie.Need-part-write-record-start-2 Inv-loop μ-loop
-part-write-record-start-2 c =
-    let at-loop = c .before .before .before .before .before .loop in
-    let at-loop-test = c .before .before .before .before .loop-test in
-    let at-mark-at = c .before .before .mark-at in
-    let k = reached (at-loop .inv) (at-loop-test .taken) (at-mark-at .ensures) in omega arith
-
-part-write-record-end-2 : tie.Need-part-write-record-end-2 Inv-loop μ-loop
-part-write-record-end-2 c =
-    let at-loop = c .before .before .before .before .before .loop in
-    let at-loop-test = c .before .before .before .before .loop-test in
-    let at-mark-at = c .before .before .mark-at in
-    let k = reached (at-loop .inv) (at-loop-test .taken) (at-mark-at .ensures) in omega arith
+    let read = c .before .before .before .before .before in
+    cuts (read .before .before .before .loop .inv) (read .before .before .loop-test .taken) (read .mark-round .ensures) (read .before .if1 .left)
+    (c .before .before .before .before .if2 .taken) (c .before .before .write-record .ensures)
 
 write-record-requires-2 : tie.Need-write-record-requires-2 Inv-loop μ-loop
 write-record-requires-2 c κs =
-    let at-loop = c .before .before .before .before .before .before .loop in
-    let at-loop-test = c .before .before .before .before .before .loop-test in
-    let at-mark-at = c .before .before .before .mark-at in
-    let k = reached (at-loop .inv) (at-loop-test .taken) (at-mark-at .ensures) in
-    (simp (length-take, length-drop) (omega (arith, (at-loop .inv .long))), simp (length-take, length-drop) (omega arith))
+    let read = c .before .before in
+    let turn = read .before .before .before in
+    let k = front read in
+    (omega (arith, turn .loop .inv .filling .long), omega arith, turn .before .before .before .pre .0, omega (arith, turn .loop .inv .inside))
 
 add-at : tie.Need-add-at Inv-loop μ-loop
-add-at c =
-    let at-loop = c .before .before .before .before .before .before .before .before .before .loop in
-    let at-loop-test = c .before .before .before .before .before .before .before .before .loop-test in
-    let at-mark-at = c .before .before .before .before .before .before .mark-at in
-    let k = reached (at-loop .inv) (at-loop-test .taken) (at-mark-at .ensures) in omega arith
+add-at c = omega arith
 
 add-at-2 : tie.Need-add-at-2 Inv-loop μ-loop
-add-at-2 c =
-    let at-loop = c .before .before .before .before .before .before .before .before .before .loop in
-    let at-loop-test = c .before .before .before .before .before .before .before .before .loop-test in
-    let at-mark-at = c .before .before .before .before .before .before .mark-at in
-    let k = reached (at-loop .inv) (at-loop-test .taken) (at-mark-at .ensures) in omega arith
+add-at-2 c = omega arith
 
-add-start : tie.Need-add-start Inv-loop μ-loop
-add-start c =
-    let at-loop = c .before .before .before .before .before .before .before .before .before .loop in
-    let at-loop-test = c .before .before .before .before .before .before .before .before .loop-test in
-    let at-mark-at = c .before .before .before .before .before .before .mark-at in
-    let k = reached (at-loop .inv) (at-loop-test .taken) (at-mark-at .ensures) in omega arith
+add-from : tie.Need-add-from Inv-loop μ-loop
+add-from c =
+    let k = front (c .before .before .before .before .before) in
+    omega arith
 
 loop-less : tie.Need-loop-less Inv-loop μ-loop
 loop-less c =
-    let at-loop = c .before .before .before .before .before .before .before .before .before .loop in
-    let at-loop-test = c .before .before .before .before .before .before .before .before .loop-test in
-    let at-mark-at = c .before .before .before .before .before .before .mark-at in
-    let k = reached (at-loop .inv) (at-loop-test .taken) (at-mark-at .ensures) in omega arith
+    let k = front (c .before .before .before .before .before) in
+    omega arith
 
 loop-again : tie.Need-loop-again Inv-loop μ-loop
 loop-again c =
-    let at-loop = c .before .before .before .before .before .before .before .before .before .loop in
-    let at-loop-test = c .before .before .before .before .before .before .before .before .loop-test in
-    let at-mark-at = c .before .before .before .before .before .before .mark-at in
-    let at-if1 = c .before .before .before .before .before .before .before .if1 in
-    let at-if2 = c .before .before .before .before .before .if2 in
-    let at-write-record2 = c .before .before .write-record2 in
-    goes-on (at-loop .inv) (at-loop-test .taken) (at-mark-at .ensures) (at-if1 .left) (at-if2 .left) (at-write-record2 .ensures)
+    let read = c .before .before .before .before .before in
+    goes-on (read .before .before .before .loop .inv) (read .before .before .loop-test .taken) (read .mark-round .ensures) (read .before .if1 .left)
+    (c .before .before .before .before .if2 .left) (c .before .before .write-record2 .ensures)
 
 same-length-3 : tie.Need-same-length-3 Inv-loop μ-loop
-same-length-3 c =
-    let at-loop = c .before .loop in
-    let at-pre = c .before .before .before .before .pre in
-    omega (arith, (at-loop .inv .long), ap length (at-pre .1))
+same-length-3 c = omega (arith, c .before .loop .inv .filling .long, ap length (c .before .before .before .before .pre .3))
 
 returns-3 : tie.Need-returns-3 Inv-loop μ-loop
-returns-3 c =
-    let at-loop = c .before .loop in
-    let at-loop-test = c .loop-test in
-    ends (at-loop .inv) (at-loop-test .left)
+returns-3 c = ends (c .before .loop .inv) (c .loop-test .left)
 
 pub fill-spec : {M : Type 1} → statement M
 fill-spec =
@@ -228,27 +128,19 @@ fill-spec =
     sub-room
     same-length
     returns
-    mark-at-requires
+    mark-round-requires
     add-behind
     add-if2
     sub-fitting
-    add-write-record
-    sub-write-record
-    part-write-record-start
-    part-write-record-end
     write-record-requires
-    add-t16
-    sub-t18
+    add-t18
+    sub-t19
     same-length-2
     returns-2
-    add-write-record-2
-    sub-write-record-2
-    part-write-record-start-2
-    part-write-record-end-2
     write-record-requires-2
     add-at
     add-at-2
-    add-start
+    add-from
     loop-less
     loop-again
     same-length-3

@@ -1,5 +1,5 @@
+-- Each return gives the test that fails.
 use borrow.Author.Tests.{le-leb, lt-leb}
-use lib.ListN.{length}
 use Rattle.marks.proofs.Walk.{within}
 use borrow.Author.Needs.{needs}
 use Rattle.marks.proofs.is_length.Statement.{statement}
@@ -28,7 +28,7 @@ returns-3 c =
     let at-if2 = c .if2 in
     let at-args = c .before .before .args in
     let at-pre = c .before .before .pre in
-    simp (le-leb _ _ (at-if1 .left), le-leb _ _ (at-if2 .left)) (within (at-args .at) (at-args .n) (length (at-args .bytes .now)) at-pre)
+    simp (le-leb _ _ (at-if1 .left), le-leb _ _ (at-if2 .left)) (within (at-args .at) (at-args .n) (at-args .total) at-pre)
 
 pub is-length-spec : {M : Type 1} → statement M
 is-length-spec = tie.close (tie.spec returns returns-2 sub-result sub-result-2 returns-3)

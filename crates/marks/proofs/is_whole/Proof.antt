@@ -1,20 +1,20 @@
+-- The front mark, begun or not, then the marks behind it: the laws are those of Round.antt.
 use borrow.Author.Tests.{not-true, not-false}
-use mathlib.Core.Path.{sym, _∙_}
+use mathlib.Core.Path.{_∙_}
+use native.Mathlib.Omega.{arith}
 use Rattle.link.proofs.Store.{wholeFrom}
-use Rattle.marks.proofs.Walk.{whole-short, not-begun, begun-bad, begun-good}
+use Rattle.marks.proofs.Round.{few, not-begun, begun-bad, begun-good}
 use borrow.Author.Needs.{needs}
 use Rattle.marks.proofs.is_whole.Statement.{statement}
 use Rattle.marks.proofs.is_whole.Tie as tie
 
 returns : tie.Need-returns
-unfolding wholeFrom
 returns c =
-    let at-args = c .before .before .args in
-    let at-if1 = c .if1 in
-    whole-short (at-args .bytes .now) (at-if1 .taken)
+    let given = c .before .before in
+    few (given .args .queue .now) (given .args .start) (given .args .used) (given .pre .1) (c .if1 .taken)
 
-mark-at-requires : tie.Need-mark-at-requires
-mark-at-requires c κs = search needs
+mark-round-requires : tie.Need-mark-round-requires
+mark-round-requires c κs = search needs
 
 are-packets-requires : tie.Need-are-packets-requires
 are-packets-requires c κs = search needs
@@ -22,24 +22,20 @@ are-packets-requires c κs = search needs
 returns-2 : tie.Need-returns-2
 unfolding wholeFrom
 returns-2 c =
-    let at-are-packets = c .are-packets in
-    let at-args = c .before .before .before .before .before .args in
-    let at-mark-at = c .before .before .mark-at in
-    let at-if2 = c .before .if2 in
-    (at-are-packets .ensures) ∙ sym (not-begun (at-args .bytes .now) (at-mark-at .result) (at-mark-at .ensures) (at-if2 .taken))
+    let read = c .before .before in
+    let given = read .before .before .before in
+    c .are-packets .ensures
+    ∙ not-begun (given .args .queue .now) (given .args .start) (given .args .used) (given .pre .1) (omega arith) (read .mark-round .ensures) (c .before .if2 .taken)
 
 is-length-requires : tie.Need-is-length-requires
 is-length-requires c κs = search needs
 
 returns-3 : tie.Need-returns-3
-unfolding wholeFrom
 returns-3 c =
-    let at-args = c .before .before .before .before .before .before .args in
-    let at-mark-at = c .before .before .before .mark-at in
-    let at-if2 = c .before .before .if2 in
-    let at-is-length = c .before .is-length in
-    let at-if3 = c .if3 in
-    sym (begun-bad (at-args .bytes .now) (at-mark-at .result) (at-mark-at .ensures) (at-if2 .left) (sym (at-is-length .ensures) ∙ not-true _ (at-if3 .taken)))
+    let read = c .before .before .before in
+    let given = read .before .before .before in
+    begun-bad (given .args .queue .now) (given .args .start) (given .args .used) (given .pre .1) (omega arith) (read .mark-round .ensures)
+    (c .before .before .if2 .left) (c .before .is-length .ensures) (not-true _ (c .if3 .taken))
 
 add-are-packets : tie.Need-add-are-packets
 add-are-packets c = search needs
@@ -50,20 +46,18 @@ are-packets-requires-2 c κs = search needs
 returns-4 : tie.Need-returns-4
 unfolding wholeFrom
 returns-4 c =
-    let at-are-packets2 = c .are-packets2 in
-    let at-args = c .before .before .before .before .before .before .before .args in
-    let at-mark-at = c .before .before .before .before .mark-at in
-    let at-if2 = c .before .before .before .if2 in
-    let at-is-length = c .before .before .is-length in
-    let at-if3 = c .before .if3 in
-    (at-are-packets2 .ensures) ∙ sym (begun-good (at-args .bytes .now) (at-mark-at .result) (at-mark-at .ensures) (at-if2 .left) (sym (at-is-length .ensures) ∙ not-false _ (at-if3 .left)))
+    let read = c .before .before .before .before in
+    let given = read .before .before .before in
+    c .are-packets2 .ensures
+    ∙ begun-good (given .args .queue .now) (given .args .start) (given .args .used) (given .pre .1) (omega arith) (read .mark-round .ensures)
+    (c .before .before .before .if2 .left) (c .before .before .is-length .ensures) (not-false _ (c .before .if3 .left))
 
 pub is-whole-spec : {M : Type 1} → statement M
 is-whole-spec =
     tie.close
     (tie.spec
     returns
-    mark-at-requires
+    mark-round-requires
     are-packets-requires
     returns-2
     is-length-requires

@@ -1,10 +1,11 @@
+-- Each return gives the number of the first condition that fails.
 use borrow.Author.Tests.{le-leb, lt-leb, eq-eqb, ne-eqb, not-true, not-false}
 use mathlib.Core.Path.{sym, _∙_}
 use native.Mathlib.Omega.{arith}
 use Prim.Native.Nat.{_+_}
 use lib.ListN.{length}
+use Rattle.marks.proofs.Used.{ring-passed}
 use Rattle.sender.specs.Put.{putRefusal}
-use Rattle.marks.proofs.Walk.{used-within}
 use borrow.Author.Needs.{needs}
 use Rattle.sender.proofs.put_refusal.Statement.{statement}
 use Rattle.sender.proofs.put_refusal.Tie as tie
@@ -15,41 +16,42 @@ returns c =
     let at-if1 = c .if1 in
     simp (ne-eqb _ _ (at-if1 .taken))
 
-is-used-whole-requires : tie.Need-is-used-whole-requires
-is-used-whole-requires c κs = search needs
+is-ring-whole-requires : tie.Need-is-ring-whole-requires
+is-ring-whole-requires c κs = search needs
 
 returns-2 : tie.Need-returns-2
 unfolding putRefusal
 returns-2 c =
     let at-if1 = c .before .before .if1 in
-    let at-is-used-whole = c .before .is-used-whole in
+    let at-is-ring-whole = c .before .is-ring-whole in
     let at-if2 = c .if2 in
-    simp (eq-eqb _ _ (at-if1 .left), sym (at-is-used-whole .ensures) ∙ not-true _ (at-if2 .taken))
+    simp (eq-eqb _ _ (at-if1 .left), sym (at-is-ring-whole .ensures) ∙ not-true _ (at-if2 .taken))
 
 returns-3 : tie.Need-returns-3
 unfolding putRefusal
 returns-3 c =
     let at-if1 = c .before .before .before .if1 in
-    let at-is-used-whole = c .before .before .is-used-whole in
+    let at-is-ring-whole = c .before .before .is-ring-whole in
     let at-if2 = c .before .if2 in
     let at-if3 = c .if3 in
-    simp (eq-eqb _ _ (at-if1 .left), sym (at-is-used-whole .ensures) ∙ not-false _ (at-if2 .left), lt-leb _ _ (at-if3 .taken))
+    simp (eq-eqb _ _ (at-if1 .left), sym (at-is-ring-whole .ensures) ∙ not-false _ (at-if2 .left), lt-leb _ _ (at-if3 .taken))
 
 returns-4 : tie.Need-returns-4
 unfolding putRefusal
 returns-4 c =
     let at-if1 = c .before .before .before .before .if1 in
-    let at-is-used-whole = c .before .before .before .is-used-whole in
+    let at-is-ring-whole = c .before .before .before .is-ring-whole in
     let at-if2 = c .before .before .if2 in
     let at-if3 = c .before .if3 in
     let at-if4 = c .if4 in
-    simp (eq-eqb _ _ (at-if1 .left), sym (at-is-used-whole .ensures) ∙ not-false _ (at-if2 .left), le-leb _ _ (at-if3 .left), lt-leb _ _ (at-if4 .taken))
+    simp (eq-eqb _ _ (at-if1 .left), sym (at-is-ring-whole .ensures) ∙ not-false _ (at-if2 .left), le-leb _ _ (at-if3 .left), lt-leb _ _ (at-if4 .taken))
 
 sub-if5 : tie.Need-sub-if5
 sub-if5 c =
-    let at-is-used-whole = c .before .before .before .is-used-whole in
-    let at-if2 = c .before .before .if2 in
-    used-within _ _ (sym (at-is-used-whole .ensures) ∙ not-false _ (at-if2 .left))
+    let whole = c .before .before in
+    let given = whole .before .before .before .before .before .args in
+    let p = ring-passed (given .queue .now) (given .start) (given .used) (sym (whole .before .is-ring-whole .ensures) ∙ not-false _ (whole .if2 .left)) in
+    omega arith
 
 add-if5 : tie.Need-add-if5
 add-if5 c = search needs
@@ -58,30 +60,30 @@ returns-5 : tie.Need-returns-5
 unfolding putRefusal
 returns-5 c =
     let at-if1 = c .before .before .before .before .before .if1 in
-    let at-is-used-whole = c .before .before .before .before .is-used-whole in
+    let at-is-ring-whole = c .before .before .before .before .is-ring-whole in
     let at-if2 = c .before .before .before .if2 in
     let at-if3 = c .before .before .if3 in
     let at-if4 = c .before .if4 in
     let at-args = c .before .before .before .before .before .before .before .before .args in
-    simp (eq-eqb _ _ (at-if1 .left), sym (at-is-used-whole .ensures) ∙ not-false _ (at-if2 .left), le-leb _ _ (at-if3 .left), le-leb _ _ (at-if4 .left), lt-leb ((at-args .used) + 2 + length (at-args .packet .now)) 32768 (omega arith))
+    simp (eq-eqb _ _ (at-if1 .left), sym (at-is-ring-whole .ensures) ∙ not-false _ (at-if2 .left), le-leb _ _ (at-if3 .left), le-leb _ _ (at-if4 .left), lt-leb ((at-args .used) + 2 + length (at-args .packet .now)) 32768 (omega arith))
 
 returns-6 : tie.Need-returns-6
 unfolding putRefusal
 returns-6 c =
     let at-if1 = c .before .before .before .before .before .if1 in
-    let at-is-used-whole = c .before .before .before .before .is-used-whole in
+    let at-is-ring-whole = c .before .before .before .before .is-ring-whole in
     let at-if2 = c .before .before .before .if2 in
     let at-if3 = c .before .before .if3 in
     let at-if4 = c .before .if4 in
     let at-args = c .before .before .before .before .before .before .before .before .args in
-    simp (eq-eqb _ _ (at-if1 .left), sym (at-is-used-whole .ensures) ∙ not-false _ (at-if2 .left), le-leb _ _ (at-if3 .left), le-leb _ _ (at-if4 .left), le-leb ((at-args .used) + 2 + length (at-args .packet .now)) 32768 (omega (arith, used-within _ _ (sym (at-is-used-whole .ensures) ∙ not-false _ (at-if2 .left)))))
+    simp (eq-eqb _ _ (at-if1 .left), sym (at-is-ring-whole .ensures) ∙ not-false _ (at-if2 .left), le-leb _ _ (at-if3 .left), le-leb _ _ (at-if4 .left), le-leb ((at-args .used) + 2 + length (at-args .packet .now)) 32768 (omega (arith, ring-passed _ _ _ (sym (at-is-ring-whole .ensures) ∙ not-false _ (at-if2 .left)) .most)))
 
 pub put-refusal-spec : {M : Type 1} → statement M
 put-refusal-spec =
     tie.close
     (tie.spec
     returns
-    is-used-whole-requires
+    is-ring-whole-requires
     returns-2
     returns-3
     returns-4

@@ -1,15 +1,15 @@
-use mathlib.Core.Path.{refl, sym, ap, ap₂, _∙_}
-use native.Mathlib.Omega.{arith}
+-- A refusal leaves both buffers; otherwise filling, freeing and building meet the three parts of the outcome, by the laws of Sending.antt.
+use mathlib.Core.Path.{refl, sym, ap₂, _∙_}
 use mathlib.Core.List.{List}
 use Prim.Native.Nat.{ℕ}
-use lib.ListN.{length}
+use native.Mathlib.Omega.{arith}
+use Rattle.basics.proofs.Lists.{bytes-each}
 use Rattle.lent.specs.Written.{written}
 use Rattle.lent.proofs.Outcome.{refused, kept, accepted}
 use Rattle.header.specs.declared.FrameKind.{FrameKind}
 use Rattle.frame.specs.Frame.{frameBytes}
 use Rattle.sending.specs.declared.NextAnswer.the-variants.{Refused}
-use Rattle.basics.proofs.Lists.{bytes-each}
-use Rattle.sending.proofs.Sending.{next-passed, used-length, kind-is, area-is, rest-is, start-within, sent-path}
+use Rattle.sending.proofs.Sending.{NextPassed, next-passed, kind-is, area-is, stop-within, freed-is, sent-path}
 use borrow.Author.Needs.{needs}
 use Rattle.sending.proofs.next_frame.Statement.{statement}
 use Rattle.sending.proofs.next_frame.Tie as tie
@@ -25,49 +25,32 @@ same-length-2 c = search needs
 
 returns : tie.Need-returns
 returns c =
-    let at-next-refusal = c .before .next-refusal in
-    let at-if1 = c .if1 in
-    record {
-      answer = refused _ _ _ (λ n. Refused n) (at-next-refusal .ensures) (at-if1 .taken);
-      bytes = kept _ _ _ _ (at-next-refusal .ensures) (at-if1 .taken);
-      frame = kept _ _ _ _ (at-next-refusal .ensures) (at-if1 .taken);
-    }
+    let number = c .before .next-refusal .ensures in
+    let taken = c .if1 .taken in
+    record { answer = refused _ _ _ (λ n. Refused n) number taken; bytes = kept _ _ _ _ number taken; frame = kept _ _ _ _ number taken }
 
-slice-reshare-prefix-fill : tie.Need-slice-reshare-prefix-fill
-slice-reshare-prefix-fill c =
-    let at-args = c .before .before .before .before .before .before .args in
-    let at-next-refusal = c .before .next-refusal in
-    let at-if1 = c .if1 in
-    let p = next-passed (at-args .taps) (at-args .fields) (at-args .sender .used) (at-args .queue .now) (at-args .out .now) (sym (at-next-refusal .ensures) ∙ (at-if1 .left)) in
-    omega (arith, p .within, p .long)
+-- what is known where nothing is refused
+passed : (c : tie.Else1)
+    → let given = c .before .before .before .before .before .before .args in
+    NextPassed (given .taps) (given .fields) (given .sender .start) (given .sender .used) (given .queue .now) (given .out .now)
+passed c =
+    let given = c .before .before .before .before .before .before .args in
+    next-passed (given .taps) (given .fields) (given .sender .start) (given .sender .used) (given .queue .now) (given .out .now)
+    (sym (c .before .next-refusal .ensures) ∙ c .if1 .left)
 
 slice-aggregate-fill : tie.Need-slice-aggregate-fill
-slice-aggregate-fill c =
-    let at-args = c .before .before .before .before .before .before .before .args in
-    let at-next-refusal = c .before .before .next-refusal in
-    let at-if1 = c .before .if1 in
-    let p = next-passed (at-args .taps) (at-args .fields) (at-args .sender .used) (at-args .queue .now) (at-args .out .now) (sym (at-next-refusal .ensures) ∙ (at-if1 .left)) in
-    sym (used-length p)
-
-slice-aggregate-fill-2 : tie.Need-slice-aggregate-fill-2
-slice-aggregate-fill-2 c = search needs
+slice-aggregate-fill c = search needs
 
 fill-requires : tie.Need-fill-requires
 fill-requires c κs =
-    let at-args = c .before .before .before .before .before .before .before .before .args in
-    let at-next-refusal = c .before .before .before .next-refusal in
-    let at-if1 = c .before .before .if1 in
-    let p = next-passed (at-args .taps) (at-args .fields) (at-args .sender .used) (at-args .queue .now) (at-args .out .now) (sym (at-next-refusal .ensures) ∙ (at-if1 .left)) in
-    (p .whole, refl)
+    let p = passed (c .before .before) in
+    (omega (arith, p .within, p .long), omega (arith, p .most, p .long), p .whole, refl)
 
-settle-requires : tie.Need-settle-requires
-settle-requires c κs =
-    let at-args = c .before .before .before .before .before .before .before .before .before .before .before .args in
-    let at-next-refusal = c .before .before .before .before .before .before .next-refusal in
-    let at-if1 = c .before .before .before .before .before .if1 in
-    let at-fill = c .before .before .fill in
-    let p = next-passed (at-args .taps) (at-args .fields) (at-args .sender .used) (at-args .queue .now) (at-args .out .now) (sym (at-next-refusal .ensures) ∙ (at-if1 .left)) in
-    (start-within p (at-fill .ensures), omega (arith, p .within, p .long), (at-fill .ensures .most), (at-fill .ensures .behind))
+free-front-requires : tie.Need-free-front-requires
+free-front-requires c κs =
+    let filled = c .before .before in
+    let p = passed (filled .before .before .before) in
+    (p .long, p .within, p .most, stop-within p (filled .fill .ensures), filled .fill .ensures .most, filled .fill .ensures .behind)
 
 kind-for-requires : tie.Need-kind-for-requires
 kind-for-requires c κs = search needs
@@ -77,12 +60,8 @@ slice-aggregate-build c = search needs
 
 build-requires : tie.Need-build-requires
 build-requires c κs =
-    let at-args = c .before .before .before .before .before .before .before .before .before .before .before .before .before .before .before .before .before .before .args in
-    let at-next-refusal = c .before .before .before .before .before .before .before .before .before .before .before .before .before .next-refusal in
-    let at-if1 = c .before .before .before .before .before .before .before .before .before .before .before .before .if1 in
-    let at-fill = c .before .before .before .before .before .before .before .before .before .fill in
-    let p = next-passed (at-args .taps) (at-args .fields) (at-args .sender .used) (at-args .queue .now) (at-args .out .now) (sym (at-next-refusal .ensures) ∙ (at-if1 .left)) in
-    ((at-fill .kept .1 .0), p .room)
+    let filled = c .before .before .before .before .before .before .before .before .before in
+    (filled .fill .kept .1 .1 .1 .0, passed (filled .before .before .before) .room)
 
 next-requires : tie.Need-next-requires
 next-requires c κs = search needs
@@ -95,29 +74,24 @@ same-length-4 c = search needs
 
 returns-2 : tie.Need-returns-2
 returns-2 c =
-    let at-args = c .before .before .before .before .before .before .before .before .before .before .before .before .before .before .before .before .before .before .before .before .before .before .args in
-    let at-next-refusal = c .before .before .before .before .before .before .before .before .before .before .before .before .before .before .before .before .before .next-refusal in
-    let at-if1 = c .before .before .before .before .before .before .before .before .before .before .before .before .before .before .before .before .if1 in
-    let at-kind-for = c .before .before .before .before .before .before .kind-for in
-    let at-slice-known = c .before .before .before .before .before .before .before .before .before .before .before .before .before .before .before .before .before .before .before .before .before .slice-known in
-    let at-fill = c .before .before .before .before .before .before .before .before .before .before .before .before .before .fill in
-    let at-settle = c .before .before .before .before .before .before .before .before .before .before .settle in
-    let at-next = c .next in
-    let at-build = c .before .before .before .build in
-    let taps = (at-args .taps) in
-    let fields = (at-args .fields) in
-    let sender = (at-args .sender) in
-    let queue = (at-args .queue .now) in
-    let out = (at-args .out .now) in
-    let p = next-passed taps fields (sender .used) queue out (sym (at-next-refusal .ensures) ∙ (at-if1 .left)) in
-    let kind = (at-kind-for .ensures) ∙ kind-is p (bytes-each queue (λ i. omega (arith, (at-slice-known .given) i))) in
-    let rest = rest-is p (at-fill .ensures) in
-    let area = area-is p (at-fill .ensures) in
+    let built = c .before .before .before in
+    let named = built .before .before .before in
+    let freeing = named .before .before .before .before in
+    let filled = freeing .before .before .before in
+    let judged = filled .before .before .before in
+    let known = judged .before .before .before .before .before in
+    let given = known .before .args in
+    let number = judged .before .next-refusal .ensures in
+    let p = passed judged in
+    let kind = named .kind-for .ensures ∙ kind-is p (bytes-each (given .queue .now) (λ i. omega (arith, known .slice-known .given i))) in
+    let freed = freed-is p (filled .fill .ensures) (freeing .free-front .ensures) in
     record {
-      answer = accepted _ _ _ _ _ (at-next-refusal .ensures) (at-if1 .left) (sent-path ((at-settle .ensures .0) ∙ ap length rest) (at-next .ensures) kind);
-      bytes = accepted _ _ _ _ _ (at-next-refusal .ensures) (at-if1 .left) ((at-settle .ensures .1) ∙ ap (written queue 0) rest);
-      frame = accepted _ _ _ _ _ (at-next-refusal .ensures) (at-if1 .left)
-          ((at-build .ensures) ∙ ap₂ (λ (k : FrameKind) (l : List ℕ). written out 0 (frameBytes taps (record { txfn = sender .next; kind = k; fields = fields }) l)) kind area);
+      answer = accepted _ _ _ _ _ number (judged .if1 .left) (sent-path (freed .begins) (freed .count) (c .next .ensures) kind);
+      bytes = accepted _ _ _ _ _ number (judged .if1 .left) (freed .bytes);
+      frame = accepted _ _ _ _ _ number (judged .if1 .left)
+          (built .build .ensures
+          ∙ ap₂ (λ (k : FrameKind) (l : List ℕ). written (given .out .now) 0 (frameBytes (given .taps) (record { txfn = given .sender .next; kind = k; fields = given .fields }) l))
+          kind (area-is p (filled .fill .ensures)));
     }
 
 pub next-frame-spec : {M : Type 1} → statement M
@@ -128,11 +102,9 @@ next-frame-spec =
     same-length
     same-length-2
     returns
-    slice-reshare-prefix-fill
     slice-aggregate-fill
-    slice-aggregate-fill-2
     fill-requires
-    settle-requires
+    free-front-requires
     kind-for-requires
     slice-aggregate-build
     build-requires

@@ -1,3 +1,4 @@
+-- Each return gives the number of the first condition that fails.
 use borrow.Author.Tests.{le-leb, lt-leb, eq-eqb, ne-eqb, not-true, not-false}
 use mathlib.Core.Path.{sym, _∙_}
 use Rattle.sending.specs.Next.{nextRefusal}
@@ -32,8 +33,8 @@ returns-3 c =
     let at-if3 = c .if3 in
     simp (sym (at-are-taps .ensures) ∙ not-false _ (at-if1 .left), eq-eqb _ _ (at-if2 .left), lt-leb _ _ (at-if3 .taken))
 
-is-used-whole-requires : tie.Need-is-used-whole-requires
-is-used-whole-requires c κs = search needs
+is-ring-whole-requires : tie.Need-is-ring-whole-requires
+is-ring-whole-requires c κs = search needs
 
 returns-4 : tie.Need-returns-4
 unfolding nextRefusal
@@ -42,9 +43,9 @@ returns-4 c =
     let at-if1 = c .before .before .before .before .if1 in
     let at-if2 = c .before .before .before .if2 in
     let at-if3 = c .before .before .if3 in
-    let at-is-used-whole = c .before .is-used-whole in
+    let at-is-ring-whole = c .before .is-ring-whole in
     let at-if4 = c .if4 in
-    simp (sym (at-are-taps .ensures) ∙ not-false _ (at-if1 .left), eq-eqb _ _ (at-if2 .left), le-leb _ _ (at-if3 .left), sym (at-is-used-whole .ensures) ∙ not-true _ (at-if4 .taken))
+    simp (sym (at-are-taps .ensures) ∙ not-false _ (at-if1 .left), eq-eqb _ _ (at-if2 .left), le-leb _ _ (at-if3 .left), sym (at-is-ring-whole .ensures) ∙ not-true _ (at-if4 .taken))
 
 fields-fit-requires : tie.Need-fields-fit-requires
 fields-fit-requires c κs = search needs
@@ -56,11 +57,11 @@ returns-5 c =
     let at-if1 = c .before .before .before .before .before .before .if1 in
     let at-if2 = c .before .before .before .before .before .if2 in
     let at-if3 = c .before .before .before .before .if3 in
-    let at-is-used-whole = c .before .before .before .is-used-whole in
+    let at-is-ring-whole = c .before .before .before .is-ring-whole in
     let at-if4 = c .before .before .if4 in
     let at-fields-fit = c .before .fields-fit in
     let at-if5 = c .if5 in
-    simp (sym (at-are-taps .ensures) ∙ not-false _ (at-if1 .left), eq-eqb _ _ (at-if2 .left), le-leb _ _ (at-if3 .left), sym (at-is-used-whole .ensures) ∙ not-false _ (at-if4 .left), sym (at-fields-fit .ensures) ∙ (at-if5 .taken))
+    simp (sym (at-are-taps .ensures) ∙ not-false _ (at-if1 .left), eq-eqb _ _ (at-if2 .left), le-leb _ _ (at-if3 .left), sym (at-is-ring-whole .ensures) ∙ not-false _ (at-if4 .left), sym (at-fields-fit .ensures) ∙ (at-if5 .taken))
 
 returns-6 : tie.Need-returns-6
 unfolding nextRefusal
@@ -69,11 +70,11 @@ returns-6 c =
     let at-if1 = c .before .before .before .before .before .before .if1 in
     let at-if2 = c .before .before .before .before .before .if2 in
     let at-if3 = c .before .before .before .before .if3 in
-    let at-is-used-whole = c .before .before .before .is-used-whole in
+    let at-is-ring-whole = c .before .before .before .is-ring-whole in
     let at-if4 = c .before .before .if4 in
     let at-fields-fit = c .before .fields-fit in
     let at-if5 = c .if5 in
-    simp (sym (at-are-taps .ensures) ∙ not-false _ (at-if1 .left), eq-eqb _ _ (at-if2 .left), le-leb _ _ (at-if3 .left), sym (at-is-used-whole .ensures) ∙ not-false _ (at-if4 .left), sym (at-fields-fit .ensures) ∙ (at-if5 .left))
+    simp (sym (at-are-taps .ensures) ∙ not-false _ (at-if1 .left), eq-eqb _ _ (at-if2 .left), le-leb _ _ (at-if3 .left), sym (at-is-ring-whole .ensures) ∙ not-false _ (at-if4 .left), sym (at-fields-fit .ensures) ∙ (at-if5 .left))
 
 pub next-refusal-spec : {M : Type 1} → statement M
 next-refusal-spec =
@@ -83,7 +84,7 @@ next-refusal-spec =
     returns
     returns-2
     returns-3
-    is-used-whole-requires
+    is-ring-whole-requires
     returns-4
     fields-fit-requires
     returns-5

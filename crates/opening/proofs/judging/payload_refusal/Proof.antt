@@ -2,7 +2,7 @@ use mathlib.Core.Path.{sym, ap, _∙_}
 use borrow.Author.Tests.{not-true, not-false}
 use Rattle.opening.specs.Opening.{payloadRefusal}
 use Rattle.interleaving.specs.Payload.{areCodewords}
-use Rattle.opening.proofs.Laws.{rest}
+use Rattle.basics.proofs.Lists.{cut-rest}
 use borrow.Author.Needs.{needs}
 use Rattle.opening.proofs.judging.payload_refusal.Statement.{statement}
 use Rattle.opening.proofs.judging.payload_refusal.Tie as tie
@@ -25,7 +25,7 @@ returns c =
     let at-args = c .before .before .before .before .args in
     let at-are-codewords = c .before .are-codewords in
     let at-if1 = c .if1 in
-    simp (ap areCodewords (sym (rest 32 (at-args .body .now))) ∙ sym (at-are-codewords .ensures) ∙ not-true _ (at-if1 .taken))
+    simp (ap areCodewords (sym (cut-rest (at-args .body .now) 32)) ∙ sym (at-are-codewords .ensures) ∙ not-true _ (at-if1 .taken))
 
 is-area-checked-requires : tie.Need-is-area-checked-requires
 is-area-checked-requires c κs = search needs
@@ -38,7 +38,7 @@ returns-2 c =
     let at-if1 = c .before .before .if1 in
     let at-is-area-checked = c .before .is-area-checked in
     let at-if2 = c .if2 in
-    simp (ap areCodewords (sym (rest 32 (at-args .body .now))) ∙ sym (at-are-codewords .ensures) ∙ not-false _ (at-if1 .left), sym (at-is-area-checked .ensures) ∙ (at-if2 .taken))
+    simp (ap areCodewords (sym (cut-rest (at-args .body .now) 32)) ∙ sym (at-are-codewords .ensures) ∙ not-false _ (at-if1 .left), sym (at-is-area-checked .ensures) ∙ (at-if2 .taken))
 
 returns-3 : tie.Need-returns-3
 unfolding payloadRefusal
@@ -48,7 +48,7 @@ returns-3 c =
     let at-if1 = c .before .before .if1 in
     let at-is-area-checked = c .before .is-area-checked in
     let at-if2 = c .if2 in
-    simp (ap areCodewords (sym (rest 32 (at-args .body .now))) ∙ sym (at-are-codewords .ensures) ∙ not-false _ (at-if1 .left), sym (at-is-area-checked .ensures) ∙ (at-if2 .left))
+    simp (ap areCodewords (sym (cut-rest (at-args .body .now) 32)) ∙ sym (at-are-codewords .ensures) ∙ not-false _ (at-if1 .left), sym (at-is-area-checked .ensures) ∙ (at-if2 .left))
 
 pub payload-refusal-spec : {M : Type 1} → statement M
 payload-refusal-spec =

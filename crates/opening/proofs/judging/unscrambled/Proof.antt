@@ -6,7 +6,7 @@ use Rattle.lent.proofs.Written.{written-whole}
 use Rattle.opening.specs.Opening.{unscrambled}
 use Rattle.basics.specs.Lists.{zeros}
 use Rattle.basics.proofs.Lists.{zeros-length}
-use Rattle.opening.proofs.Laws.{rest}
+use Rattle.basics.proofs.Lists.{cut-rest}
 use Rattle.scrambler.specs.Scrambler.{scrambled}
 use borrow.Author.Needs.{needs}
 use Rattle.opening.proofs.judging.unscrambled.Statement.{statement}
@@ -40,7 +40,7 @@ returns c =
     let at-scramble = c .before .scramble in
     let at-write-at = c .before .before .before .before .write-at in
     let frame = (at-args .frame .now) in
-    (at-scramble .ensures) ∙ ap (scrambled (at-args .taps)) ((at-write-at .ensures) ∙ ap (written (zeros 2072) 0) (rest 9 frame)
+    (at-scramble .ensures) ∙ ap (scrambled (at-args .taps)) ((at-write-at .ensures) ∙ ap (written (zeros 2072) 0) (cut-rest frame 9)
     ∙ written-whole (zeros 2072) (drop 9 frame) (omega (arith, length-drop 9 frame, zeros-length 2072)))
 
 pub unscrambled-spec : {M : Type 1} → statement M
