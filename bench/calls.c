@@ -1,8 +1,10 @@
-/* Calls the library COUNT times: calls NAME COUNT. */
+/* Calls the library COUNT times: calls NAME COUNT. Writes the frame at hand to standard output. */
 #include "inputs.h"
 #include "taqwelim.h"
 
 static uint8_t queues[CALLS][TAQWELIM_QUEUE_SIZE], packet[PACKET], frame[TAQWELIM_FRAME_SIZE], hold[TAQWELIM_HOLD_SIZE], list[TAQWELIM_LIST_LEAST];
+static const struct waiting *given; /* in each queue, before the call */
+static taqwelim_sender sender;
 
 /* A frame whose area one packet fills, for `receive`. */
 static void build_frame(taqwelim_fields fields)
@@ -14,11 +16,10 @@ static void build_frame(taqwelim_fields fields)
 
 static void call(const char *name, taqwelim_fields fields, int k)
 {
-    taqwelim_sender full = {TAQWELIM_QUEUE_SIZE, 0};
-    if (!strcmp(name, "put"))
-        must(taqwelim_put(queues[k], sizeof queues[k], taqwelim_fresh_sender(), packet, sizeof packet).refusal, name);
-    else if (!strcmp(name, "next_frame"))
-        must(taqwelim_next_frame(TAPS, fields, full, queues[k], sizeof queues[k], frame, sizeof frame).refusal, name);
+    if (given)
+        must(taqwelim_next_frame(TAPS, fields, sender, queues[k], sizeof queues[k], frame, sizeof frame).refusal, name);
+    else if (!strcmp(name, "put"))
+        must(taqwelim_put(queues[k], sizeof queues[k], sender, packet, sizeof packet).refusal, name);
     else if (!strcmp(name, "receive"))
         must(taqwelim_receive(TAPS, frame, sizeof frame, taqwelim_fresh_receiver(), hold, sizeof hold, list, sizeof list).refusal, name);
     else
@@ -30,11 +31,14 @@ int main(int argc, char **argv)
     int count = argc > 2 ? atoi(argv[2]) : 0;
     taqwelim_fields fields = {0};
     fields.message.opcode = TAQWELIM_ABSENT;
+    given = argc > 1 ? waiting_before(argv[1]) : NULL;
     fill_samples(packet, sizeof packet);
     build_frame(fields);
-    for (int k = 0; k < CALLS; k++)
-        fill_queue(queues[k]);
+    for (int k = 0; k < CALLS && given; k++) {
+        sender.start = given->start;
+        sender.used = fill_queue(queues[k], given);
+    }
     for (int k = 0; k < count && k < CALLS; k++)
         call(argv[1], fields, k);
-    return 0;
+    return show(frame, sizeof frame);
 }

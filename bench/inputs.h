@@ -7,7 +7,7 @@
 #include <stdlib.h>
 #include <string.h>
 
-enum { TAPS = 9, CALLS = 16, PACKET = 1906 };
+enum { TAPS = 9, CALLS = 16, PACKET = 1906, RING = 32768 };
 
 /* Bytes that look like samples, and never the same one for long. */
 static inline void fill_samples(uint8_t *bytes, size_t count)
@@ -24,17 +24,46 @@ static inline void fill_area(uint8_t area[1908])
     fill_samples(area + 2, PACKET);
 }
 
-/* A full queue: three packets of 9,000 bytes and one of 5,760. */
-static inline void fill_queue(uint8_t queue[32768])
+/* What waits in the ring before a call: from which place on, and packets of which lengths. Every packet begins with the same samples, so that the frames of
+ * all have the same bytes but for a mark: what the codes cost goes by the bytes. With a start of 31,000 the ring's end parts the front packet. */
+static const struct waiting {
+    const char *name;
+    size_t start, lengths[5];
+} waiting[] = {
+    {"next_one", 0, {PACKET, 0}},
+    {"next_full", 0, {9000, 9000, 9000, 5760, 0}},
+    {"next_one_parted", 31000, {PACKET, 0}},
+    {"next_full_parted", 31000, {9000, 9000, 9000, 5760, 0}},
+};
+
+/* What waits before the call of this name, or NULL. */
+static inline const struct waiting *waiting_before(const char *name)
 {
-    static const size_t lengths[4] = {9000, 9000, 9000, 5760};
-    size_t at = 0;
-    for (int k = 0; k < 4; k++) {
-        queue[at] = (uint8_t)(lengths[k] >> 8);
-        queue[at + 1] = (uint8_t)lengths[k];
-        fill_samples(queue + at + 2, lengths[k]);
-        at += 2 + lengths[k];
+    for (size_t i = 0; i < sizeof waiting / sizeof waiting[0]; i++)
+        if (!strcmp(waiting[i].name, name))
+            return &waiting[i];
+    return NULL;
+}
+
+/* Lays the packets into the ring; how many bytes they use. */
+static inline size_t fill_queue(uint8_t queue[RING], const struct waiting *given)
+{
+    uint8_t packet[9000];
+    size_t at = given->start;
+    fill_samples(packet, sizeof packet);
+    for (const size_t *length = given->lengths; *length; length++) {
+        queue[at++ % RING] = (uint8_t)(*length >> 8);
+        queue[at++ % RING] = (uint8_t)*length;
+        for (size_t i = 0; i < *length; i++)
+            queue[at++ % RING] = packet[i];
     }
+    return at - given->start;
+}
+
+/* So that the frames of both sides can be compared. */
+static inline int show(const uint8_t *frame, size_t length)
+{
+    return fwrite(frame, 1, length, stdout) != length;
 }
 
 /* Every call answers 0, or something is wrong and no figure is worth printing. */

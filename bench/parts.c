@@ -1,4 +1,4 @@
-/* Calls a part of the library COUNT times: parts NAME COUNT. With the name 'frame' it writes the frame that it builds to standard output. */
+/* Calls a part of the library COUNT times: parts NAME COUNT. Writes the frame at hand to standard output. */
 #include "inputs.h"
 
 void part_write_parity(uint8_t *payload, size_t length);
@@ -36,9 +36,7 @@ int main(int argc, char **argv)
     memcpy(payload, area, sizeof area);
     part_write_parity(payload, sizeof payload);
     part_build(TAPS, area, sizeof area, frame, sizeof frame);
-    if (argc > 1 && !strcmp(argv[1], "frame"))
-        return fwrite(frame, 1, sizeof frame, stdout) != sizeof frame;
     for (int k = 0; k < count; k++)
         call(argv[1]);
-    return 0;
+    return show(frame, sizeof frame);
 }

@@ -7,7 +7,7 @@
 
 enum { AREA = 1908, PAYLOAD = 2040, FRAME = 2081, QUEUE = 32768, HOLD = 9000, LIST = 10907 };
 
-struct peer_sender { size_t used; uint16_t next; };
+struct peer_sender { size_t start, used; uint16_t next; };
 struct peer_receiver { int expects; uint16_t expected; size_t held; };
 struct peer_received { uint16_t txfn, missed; size_t packets, listed; };
 

@@ -11,12 +11,37 @@ static void write_mark(uint8_t *bytes, size_t mark)
     bytes[1] = (uint8_t)mark;
 }
 
-static int is_whole(const uint8_t *queue, size_t used)
+/* ---- the queue, a ring: byte i of what waits stands at start + i, round */
+
+static size_t mark_round(const uint8_t *queue, size_t at) { return (size_t)queue[at % QUEUE] << 8 | queue[(at + 1) % QUEUE]; }
+
+static void copy_in(uint8_t *queue, size_t at, const uint8_t *bytes, size_t count)
+{
+    size_t from = at % QUEUE, before_end = count < QUEUE - from ? count : QUEUE - from;
+    memcpy(queue + from, bytes, before_end);
+    memcpy(queue, bytes + before_end, count - before_end);
+}
+
+static void copy_out(const uint8_t *queue, size_t at, uint8_t *bytes, size_t count)
+{
+    size_t from = at % QUEUE, before_end = count < QUEUE - from ? count : QUEUE - from;
+    memcpy(bytes, queue + from, before_end);
+    memcpy(bytes + before_end, queue, count - before_end);
+}
+
+static void copy_mark_in(uint8_t *queue, size_t at, size_t mark)
+{
+    uint8_t bytes[2];
+    write_mark(bytes, mark);
+    copy_in(queue, at, bytes, 2);
+}
+
+static int is_whole(const uint8_t *queue, size_t start, size_t used)
 {
     for (size_t at = 0; at < used;) {
         if (used - at < 2)
             return 0;
-        size_t length = mark_at(queue + at), most = 9000;
+        size_t length = mark_round(queue, start + at), most = 9000;
         if (at == 0 && length >= 32768) {
             length -= 32768;
             most = 8999;
@@ -28,49 +53,48 @@ static int is_whole(const uint8_t *queue, size_t used)
     return 1;
 }
 
-static int queue_refusal(const uint8_t *queue, size_t queue_length, size_t used)
+static int queue_refusal(const uint8_t *queue, size_t queue_length, const struct peer_sender *sender)
 {
     if (queue_length != QUEUE)
         return 2;
-    return used <= QUEUE && is_whole(queue, used) ? 0 : 3;
+    return sender->start < QUEUE && sender->used <= QUEUE && is_whole(queue, sender->start, sender->used) ? 0 : 3;
 }
 
 int peer_put(uint8_t *queue, size_t queue_length, struct peer_sender *sender, const uint8_t *packet, size_t length)
 {
-    int refusal = queue_refusal(queue, queue_length, sender->used);
+    int refusal = queue_refusal(queue, queue_length, sender);
     if (refusal)
         return refusal;
     if (length < 1 || length > 9000)
         return 4;
     if (QUEUE - sender->used < 2 + length)
         return 5;
-    write_mark(queue + sender->used, length);
-    memcpy(queue + sender->used + 2, packet, length);
+    copy_mark_in(queue, sender->start + sender->used, length);
+    copy_in(queue, sender->start + sender->used + 2, packet, length);
     sender->used += 2 + length;
     return 0;
 }
 
-/* Fills the area with records, moves what remains to the front, and answers how many bytes are then used. */
-static size_t fill(uint8_t *queue, size_t used, uint8_t area[AREA])
+/* Fills the area with records, and moves the start on; a cut packet's new mark goes over the two bytes before its rest. */
+static void fill(uint8_t *queue, struct peer_sender *sender, uint8_t area[AREA])
 {
-    size_t at = 0, start = 0;
-    while (start < used && AREA - at >= 3) {
-        size_t mark = mark_at(queue + start), length = mark & 0x7FFF, room = AREA - at - 2, first = mark < 32768 ? 32768 : 0;
+    size_t at = 0, from = sender->start, end = sender->start + sender->used;
+    while (from < end && AREA - at >= 3) {
+        size_t mark = mark_round(queue, from), length = mark & 0x7FFF, room = AREA - at - 2, first = mark < 32768 ? 32768 : 0;
         if (length > room) {
             write_mark(area + at, first | room);
-            memcpy(area + at + 2, queue + start + 2, room);
-            size_t rest = used - start - 2 - room;
-            memmove(queue + 2, queue + start + 2 + room, rest);
-            write_mark(queue, 32768 | (length - room));
-            return 2 + rest;
+            copy_out(queue, from + 2, area + at + 2, room);
+            from += room;
+            copy_mark_in(queue, from, 32768 | (length - room));
+            break;
         }
         write_mark(area + at, first | 0x4000 | length);
-        memcpy(area + at + 2, queue + start + 2, length);
+        copy_out(queue, from + 2, area + at + 2, length);
         at += 2 + length;
-        start += 2 + length;
+        from += 2 + length;
     }
-    memmove(queue, queue + start, used - start);
-    return used - start;
+    sender->start = from % QUEUE;
+    sender->used = end - from;
 }
 
 int peer_next_frame(uint32_t taps, uint8_t *queue, size_t queue_length, struct peer_sender *sender, uint8_t *frame, size_t frame_length)
@@ -79,16 +103,18 @@ int peer_next_frame(uint32_t taps, uint8_t *queue, size_t queue_length, struct p
         return 1;
     if (frame_length < FRAME)
         return 2;
-    int refusal = queue_refusal(queue, queue_length, sender->used);
+    int refusal = queue_refusal(queue, queue_length, sender);
     if (refusal)
         return refusal;
     uint8_t header[14] = {(uint8_t)sender->next, (uint8_t)(sender->next >> 8), 0, 0, sender->used ? 0xF1 : 0xF0, 0, 0, 0, 0, 0, 0xC0, 0x8F, 0xFF, 0xFF};
     uint8_t area[AREA] = {0};
-    sender->used = fill(queue, sender->used, area);
+    fill(queue, sender, area);
     peer_build(taps, header, area, frame);
     sender->next++;
     return 0;
 }
+
+/* ---- receiving */
 
 /* Whether the area follows the packing rules (14), and its first record can be joined to what is held (15). */
 static int area_refusal(const uint8_t area[AREA], size_t held)
