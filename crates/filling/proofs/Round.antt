@@ -11,7 +11,7 @@ use Rattle.basics.specs.Lists.{zeros, Bytes}
 use Rattle.basics.proofs.Lists.{bytes-take, drop-take}
 use Rattle.lent.specs.Written.{written}
 use Rattle.link.specs.Link.{Piece}
-use Rattle.link.specs.Store.{isWhole}
+use Rattle.link.specs.Store.{markAt, isWhole}
 use Rattle.link.proofs.Store.{markFrom}
 use Rattle.packing.specs.Rules.{recordBytes}
 use Rattle.ring.specs.Ring.{roundFrom}
@@ -55,7 +55,7 @@ module _ {queue : List ℕ} {start used : ℕ} {area : List ℕ} {at from : ℕ}
     pub mark-room : from + 2 ≤ used
     mark-room = omega (arith, long, taking.reached (i .filling) before-end refl .room)
 
-    module _ {mark : ℕ} (e : mark ≡ markFrom (roundFrom start queue) from) where
+    module _ {mark : ℕ} (e : mark ≡ markAt (drop from (roundFrom start queue))) where
       is-mark : mark ≡ markFrom bytes from
       is-mark = e ∙ used-mark queue start used (i .inside) from mark-room
 

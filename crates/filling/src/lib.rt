@@ -66,7 +66,8 @@ fn write_record(
     n: usize,
 )
     requires { ⌜ (at + 2 + n ≤ length (now area)) × (n < 2048) × (start ≤ length (now queue)) × (from + n ≤ length (now queue)) ⌝ }
-    ensures { λ _. ⌜ now (area .exit) ≡ written (now (area .entry)) at (recordBytes (record { first = first; last = last; bytes = take n (drop from (roundFrom start (now (queue .entry)))) })) ⌝ }
+    ensures { λ _. ⌜ now (area .exit) ≡ written (now (area .entry)) at
+        (recordBytes (record { first = first; last = last; bytes = take n (drop from (roundFrom start (now (queue .entry)))) })) ⌝ }
 {
     let mark = value_of(first, 32768) + value_of(last, 16384) + n;
     let mark_bytes = marks::bytes_of(mark);

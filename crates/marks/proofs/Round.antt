@@ -5,8 +5,8 @@ use mathlib.Core.List.{List}
 use Prim.Native.Nat.{ℕ, _+_, _-_, _≤_, _<_}
 use native.Mathlib.Omega.{arith}
 use lib.Dec.{leb, eqb}
-use lib.ListN.{length}
-use Rattle.link.specs.Store.{isWhole}
+use lib.ListN.{length, drop}
+use Rattle.link.specs.Store.{markAt, isWhole}
 use Rattle.link.proofs.Store.{markFrom, isLengthFrom, wholeFrom, whole-end}
 use Rattle.ring.specs.Ring.{roundFrom}
 use Rattle.marks.specs.Queue.{usedIn}
@@ -33,7 +33,7 @@ module _ (queue : List ℕ) (start used : ℕ) (u : used ≤ length queue) where
   pub few : used < 2 → eqb used 0 ≡ isWhole bytes
   few l = ap (λ (n : ℕ). eqb n 0) (sym long) ∙ walk.whole-short bytes (omega (arith, long))
 
-  module _ {mark : ℕ} (r : 2 ≤ used) (e : mark ≡ markFrom (roundFrom start queue) 0) where
+  module _ {mark : ℕ} (r : 2 ≤ used) (e : mark ≡ markAt (drop 0 (roundFrom start queue))) where
     is-mark : mark ≡ markFrom bytes 0
     is-mark = e ∙ used-mark queue start used u 0 r
 
@@ -66,7 +66,7 @@ module _ {queue : List ℕ} {start used behind at : ℕ} (w : Walked queue start
   pub runs-out : at < used → used - at < 2 → false ≡ wholeFrom walked behind
   runs-out l s = sym (walk.runs-out walked at (omega (arith, size)) (omega (arith, size))) ∙ w .so-far
 
-  module _ {n : ℕ} {test : Bool} (r : at + 2 ≤ used) (e : n ≡ markFrom (roundFrom start queue) at) (t : test ≡ lengthTest used at n 9000) where
+  module _ {n : ℕ} {test : Bool} (r : at + 2 ≤ used) (e : n ≡ markAt (drop at (roundFrom start queue))) (t : test ≡ lengthTest used at n 9000) where
     is-length : n ≡ markFrom walked at
     is-length = e ∙ used-mark queue start used (w .inside) at r
 

@@ -5,12 +5,12 @@ use mathlib.Core.List.{List}
 use Prim.Native.Nat.{ℕ, _+_, _-_, _*_, _%_, _≤_, _<_}
 use native.Mathlib.Omega.{arith}
 use lib.Dec.{ltb, leb}
-use lib.ListN.{length, getD}
+use lib.ListN.{length, getD, drop}
 use lib.Seq.{length-take-le, getD-take}
 use borrow.Author.Tests.{ltb-true, leb-true}
 use Rattle.basics.proofs.Tests.{left-true, right-true}
-use Rattle.link.specs.Store.{isWhole}
-use Rattle.link.proofs.Store.{markFrom}
+use Rattle.link.specs.Store.{markAt, isWhole}
+use Rattle.link.proofs.Store.{markFrom, mark-from}
 use Rattle.ring.specs.Ring.{roundFrom}
 use Rattle.ring.proofs.Laws.{round-length, byte-near, byte-far}
 use Rattle.ring.proofs.Places.{round-stands}
@@ -22,29 +22,31 @@ module _ (queue : List ℕ) (start used : ℕ) (u : used ≤ length queue) where
 
   -- a mark within them
   pub used-mark : (at : ℕ) → at + 2 ≤ used
-      → markFrom (roundFrom start queue) at ≡ markFrom (usedIn queue start used) at
+      → markAt (drop at (roundFrom start queue)) ≡ markFrom (usedIn queue start used) at
   used-mark at h =
-      sym (ap₂ (λ (x y : ℕ). x * 256 + y) (getD-take used (roundFrom start queue) at 0 (omega arith)) (getD-take used (roundFrom start queue) (at + 1) 0 (omega arith)))
+      mark-from (roundFrom start queue) at
+      ∙ sym (ap₂ (λ (x y : ℕ). x * 256 + y) (getD-take used (roundFrom start queue) at 0 (omega arith)) (getD-take used (roundFrom start queue) (at + 1) 0 (omega arith)))
 
 -- a mark as it stands in the buffer: before its end, behind it, or parted by it
 module _ (queue : List ℕ) (start at : ℕ) (s : start ≤ length queue) (l : at + 2 ≤ length queue) where
   abbrev near : ℕ
   near = length queue - start
 
-  of-bytes : {high low : ℕ} → high ≡ getD (roundFrom start queue) at 0 → low ≡ getD (roundFrom start queue) (at + 1) 0 → high * 256 + low ≡ markFrom (roundFrom start queue) at
-  of-bytes h k = ap₂ (λ (x y : ℕ). x * 256 + y) h k
+  of-bytes : {high low : ℕ} → high ≡ getD (roundFrom start queue) at 0 → low ≡ getD (roundFrom start queue) (at + 1) 0
+      → high * 256 + low ≡ markAt (drop at (roundFrom start queue))
+  of-bytes h k = ap₂ (λ (x y : ℕ). x * 256 + y) h k ∙ sym (mark-from (roundFrom start queue) at)
 
-  pub mark-near : at + 1 < near → markFrom queue (start + at) ≡ markFrom (roundFrom start queue) at
+  pub mark-near : at + 1 < near → markFrom queue (start + at) ≡ markAt (drop at (roundFrom start queue))
   mark-near n =
       let next : start + at + 1 ≡ start + (at + 1) = omega arith in
       of-bytes (byte-near start queue s at (omega arith)) (ap (λ (i : ℕ). getD queue i 0) next ∙ byte-near start queue s (at + 1) n)
 
-  pub mark-far : near ≤ at → markFrom queue (at - near) ≡ markFrom (roundFrom start queue) at
+  pub mark-far : near ≤ at → markFrom queue (at - near) ≡ markAt (drop at (roundFrom start queue))
   mark-far f =
       let next : at - near + 1 ≡ at + 1 - near = omega arith in
       of-bytes (byte-far start queue s at f (omega arith)) (ap (λ (i : ℕ). getD queue i 0) next ∙ byte-far start queue s (at + 1) (omega arith) (omega arith))
 
-  pub mark-parted : at + 1 ≡ near → getD queue (start + at) 0 * 256 + getD queue 0 0 ≡ markFrom (roundFrom start queue) at
+  pub mark-parted : at + 1 ≡ near → getD queue (start + at) 0 * 256 + getD queue 0 0 ≡ markAt (drop at (roundFrom start queue))
   mark-parted e =
       let first : 0 ≡ at + 1 - near = omega arith in
       of-bytes (byte-near start queue s at (omega arith)) (ap (λ (i : ℕ). getD queue i 0) first ∙ byte-far start queue s (at + 1) (omega arith) (omega arith))

@@ -6,7 +6,7 @@ ghost use mathlib.Core.List.{[]};
 ghost use Prim.Native.Nat.{_+_, _*_, _≤_, _<_};
 ghost use lib.Dec.{leb};
 ghost use lib.ListN.{length, getD, drop};
-ghost use Rattle.link.specs.Store.{marked, packetsIn, isSome, isWhole};
+ghost use Rattle.link.specs.Store.{marked, markAt, packetsIn, isSome, isWhole};
 ghost use Rattle.ring.specs.Ring.{roundFrom};
 ghost use Rattle.marks.specs.Queue.{usedIn, isRingWhole};
 
@@ -29,7 +29,7 @@ pub fn mark_at(bytes: &[u8], at: usize) -> usize
 // The mark that stands in a ring, `at` bytes behind its start. The end of the buffer may part its two bytes.
 pub fn mark_round(queue: &[u8], start: usize, at: usize) -> usize
     requires { ⌜ (start ≤ length (now queue)) × (at + 2 ≤ length (now queue)) ⌝ }
-    ensures { λ r. ⌜ r ≡ getD (roundFrom start (now (queue .entry))) at 0 * 256 + getD (roundFrom start (now (queue .entry))) (at + 1) 0 ⌝ }
+    ensures { λ r. ⌜ r ≡ markAt (drop at (roundFrom start (now (queue .entry)))) ⌝ }
 {
     let near = queue.len() - start; // from the start to the buffer's end
     if at + 1 < near {

@@ -1,5 +1,5 @@
-// The bench's own packing: reading the records of a DATA area. What an area may hold is `Allowed` in specs/Rules.antt, what a frame takes from the queue `fill`;
-// crate filling writes that.
+// The bench's own packing: reading the records of a DATA area. What an area may hold is `Allowed` in specs/Rules.antt, what a frame takes from the queue is
+// `fill`, which crate filling writes.
 ghost use mathlib.Core.Path.{_≡_};
 ghost use Prim.Native.Nat.{_+_, _<_};
 ghost use lib.ListN.{length, drop};

@@ -1,7 +1,7 @@
 -- The ring after a frame: what remains stands behind the new start already, and at most two bytes are written, a cut packet's new mark.
-use mathlib.Core.Path.{_≡_, refl, sym, ap, subst, _∙_}
+use mathlib.Core.Path.{_≡_, refl, sym, ap, ap₂, subst, _∙_}
 use mathlib.Core.Logic.{inr}
-use mathlib.Core.List.{List}
+use mathlib.Core.List.{List, [], _∷_}
 use Prim.Native.Nat.{ℕ, _+_, _-_, _%_, _≤_, _<_}
 use native.Mathlib.Omega.{arith}
 use lib.ListN.{length, getD}
@@ -15,7 +15,7 @@ use Rattle.packing.specs.Filling.{load}
 use Rattle.header.specs.declared.Fields.{Fields}
 use Rattle.header.specs.declared.FrameKind.{FrameKind}
 use Rattle.ring.specs.Ring.{roundFrom, ringWritten}
-use Rattle.ring.proofs.Laws.{round-bytes}
+use Rattle.ring.proofs.Laws.{round-bytes, ring-nothing}
 use Rattle.ring.proofs.Places.{round-keeps}
 use Rattle.marks.specs.Queue.{usedIn, waitingIn, startAfter}
 use Rattle.marks.proofs.Parsed.{whole-parsed}
@@ -26,6 +26,10 @@ use Rattle.sending.specs.Next.{kindFor, leftIn, senderAfter, nextRefusal
 use Rattle.sending.specs.declared.NextAnswer.the-variants.{Sent}
 use Rattle.sending.proofs.Left.{begunMark, mark-short, LeftOf, cut-left, left-no-longer}
 use Rattle.sending.proofs.Sending.{NextPassed, next-passed, sent-so}
+
+no-bytes : (l : List ℕ) → length l ≡ 0 → l ≡ []
+no-bytes [] e = refl
+no-bytes (x ∷ l) e = absurd (omega arith)
 
 -- a frame that is built
 module _ {taps : ℕ} {fields : Fields} {sender : Sender} {bytes out : List ℕ} {sender′ : Sender} {kind : FrameKind} {bytes′ out′ : List ℕ}
@@ -96,3 +100,14 @@ module _ {taps : ℕ} {fields : Fields} {sender : Sender} {bytes out : List ℕ}
         let short = mark-short (left .rest) in
         ap (λ (b : List ℕ). getD b ((sender′ .start + i) % 32768) 0) next-writes
         ∙ round-keeps bytes (sender′ .start) 0 mark (passed .long) (omega (arith, start-is)) (omega (arith, short)) i m (inr (omega (arith, short)))
+
+    -- Where nothing waits nothing moves: an IDLE frame changes only the TXFN.
+    pub idle-keeps : used ≡ 0 → (sender′ .start ≡ start) × (sender′ .used ≡ 0) × (bytes′ ≡ bytes)
+    idle-keeps z =
+        let none : length (layout left) ≡ 0 = omega (arith, left-fits, z) in
+        let same : startAfter start used (length (layout left)) ≡ start = omega (arith, none, z, passed .within) in (
+          start-is ∙ same,
+          ap (λ (s : Sender). s .used) state-is ∙ none,
+          ring-is ∙ ap₂ (λ (at : ℕ) (rest : List ℕ). ringWritten bytes at 0 rest) same (no-bytes (layout left) none)
+              ∙ ring-nothing bytes start (omega (arith, passed .long, passed .within)),
+        )
