@@ -1,7 +1,13 @@
 // The kinds of record that try the codes. A body is the input, and behind it what the second coder expects; a test
-// comes out as a byte, 1 for true and 0 for false. A result that differs in length differs.
+// comes out as a byte, 1 for true and 0 for false. A result that differs in length differs. Where the code of a word or of a
+// payload is tried, both its forms are, the quick one and the plain one.
 use outcome::Outcome;
 use vectors::numbers;
+
+// What the quick form and the plain form found: the same only where both are.
+fn of_both(quick: &[u8], plain: &[u8], expected: &[u8]) -> Outcome {
+    outcome::both(outcome::of(quick, expected), outcome::of(plain, expected))
+}
 
 // A message, and its CRC-16.
 pub fn crc_16(body: &[u8]) -> Outcome {
@@ -23,16 +29,12 @@ pub fn crc_32(body: &[u8]) -> Outcome {
     outcome::of(&found, &body[end..])
 }
 
-// An exponent below 255, and that power of 2 in the field.
+// An exponent, and that power of 2 in the field.
 pub fn power(body: &[u8]) -> Outcome {
     if body.len() < 1 {
         return Outcome::Malformed;
     }
-    let exponent = numbers::wide(body[0]);
-    if 255 <= exponent {
-        return Outcome::Malformed;
-    }
-    let found = [field::power_of(exponent)];
+    let found = [field::power_of(numbers::wide(body[0]))];
     outcome::of(&found, &body[1..])
 }
 
@@ -42,8 +44,9 @@ pub fn parity(body: &[u8]) -> Outcome {
         return Outcome::Malformed;
     }
     let end = body.len() - 16;
-    let found = reed_solomon::parity_of(&body[0..end]);
-    outcome::of(&found, &body[end..])
+    let quick = reed_solomon::parity_of(&body[0..end]);
+    let plain = plain_reed_solomon::parity_of(&body[0..end]);
+    of_both(&quick, &plain, &body[end..])
 }
 
 // A word of at least 16 bytes, and whether it is a codeword.
@@ -52,8 +55,9 @@ pub fn codeword(body: &[u8]) -> Outcome {
         return Outcome::Malformed;
     }
     let end = body.len() - 1;
-    let found = [reed_solomon::is_codeword(&body[0..end]) as u8];
-    outcome::of(&found, &body[end..])
+    let quick = [reed_solomon::is_codeword(&body[0..end]) as u8];
+    let plain = [plain_reed_solomon::is_codeword(&body[0..end]) as u8];
+    of_both(&quick, &plain, &body[end..])
 }
 
 // A payload of 2,040 bytes, and the same with the parity of its eight words.
@@ -61,8 +65,11 @@ pub fn payload_coded(body: &mut [u8]) -> Outcome {
     if body.len() < 2040 {
         return Outcome::Malformed;
     }
+    let mut plain = [0u8; 2040];
+    lent::write_at(&mut plain, 0, &body[0..2040]);
+    plain_reed_solomon::write_parity(&mut plain);
     interleaving::write_parity(&mut body[0..2040]);
-    outcome::of(&body[0..2040], &body[2040..])
+    of_both(&body[0..2040], &plain, &body[2040..])
 }
 
 // A payload of any length, and whether it is eight codewords.
@@ -71,8 +78,9 @@ pub fn payload_judged(body: &[u8]) -> Outcome {
         return Outcome::Malformed;
     }
     let end = body.len() - 1;
-    let found = [interleaving::are_codewords(&body[0..end]) as u8];
-    outcome::of(&found, &body[end..])
+    let quick = [interleaving::are_codewords(&body[0..end]) as u8];
+    let plain = [plain_reed_solomon::are_codewords(&body[0..end]) as u8];
+    of_both(&quick, &plain, &body[end..])
 }
 
 // Taps in four bytes, and whether they are allowed.

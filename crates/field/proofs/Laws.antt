@@ -1,8 +1,9 @@
 -- The laws of the field of 256 elements. Each keeps sums in each variable, so it is computed at 1, 2, 4, .., 128 alone (`Basis`).
 use mathlib.Core.Path.{_≡_, refl, sym, ap, ap₂, _∙_}
 use mathlib.Core.Bool.{Bool}
-use Prim.Native.Nat.{ℕ, zero, suc, _+_, _-_, _*_, _/_, _%_, _^_, _≤_, _<_}
-use native.Mathlib.Nat.{sub-add-cancel, mod-lt, zero-mul, one-mul, zero-add, suc-add}
+use Prim.Native.Nat.{ℕ, zero, suc, _+_, _*_, _/_, _%_, _^_, _<_}
+use native.Mathlib.Nat.{mod-lt, zero-mul, one-mul, zero-add, suc-add}
+use native.Mathlib.Numerals.{add-one}
 use lib.Dec.{T, eqb, eqb→eq, lit<}
 use lib.Pow.{pow-lt}
 use lib.Bits.{bitXor, xor-lt, xor-mod}
@@ -38,7 +39,7 @@ sum-xor-right (suc n) a b c hb hc =
     (ap (sumOver n (a / 2)) (double-xor b c hb hc) ∙ sum-xor-right n (a / 2) (double b) (double c) (double-lt b hb) (double-lt c hc))
     ∙ xor-cross (a % 2 * b) (a % 2 * c) (sumOver n (a / 2) (double b)) (sumOver n (a / 2) (double c))
 
-sum-lt : (n a b : ℕ) → b < 256 → sumOver n a b < 256
+pub sum-lt : (n a b : ℕ) → b < 256 → sumOver n a b < 256
 unfolding sumOver
 sum-lt zero a b h = lit< tt
 sum-lt (suc n) a b h =
@@ -164,6 +165,10 @@ unfolding power
 power-lt zero = lit< tt
 power-lt (suc k) = double-lt (power k) (power-lt k)
 
+pub power-next : (k : ℕ) → times 2 (power k) ≡ power (k + 1)
+unfolding power
+power-next k = two-times (power k) (power-lt k) ∙ ap power (sym (add-one k))
+
 pub power-add : (i j : ℕ) → times (power i) (power j) ≡ power (i + j)
 unfolding power
 power-add zero j = one-times (power j) (power-lt j) ∙ ap power (sym (zero-add j))
@@ -177,10 +182,3 @@ power-255 = refl
 
 pub power-round : (k : ℕ) → power (k + 255) ≡ power k
 power-round k = sym (power-add k 255) ∙ ap (times (power k)) power-255 ∙ times-one (power k) (power-lt k)
-
--- the product of two bytes by their logarithms
-pub product-low : {a b : ℕ} (i j : ℕ) → power i ≡ a → power j ≡ b → times a b ≡ power (i + j)
-product-low i j p q = ap₂ times (sym p) (sym q) ∙ power-add i j
-
-pub product-high : {a b : ℕ} (i j : ℕ) → power i ≡ a → power j ≡ b → 255 ≤ i + j → times a b ≡ power (i + j - 255)
-product-high i j p q h = product-low i j p q ∙ ap power (sym (sub-add-cancel h)) ∙ power-round (i + j - 255)

@@ -1,4 +1,6 @@
 pub mod Double
 pub mod Basis
 pub mod Laws
-pub mod Tables
+pub mod Powers
+pub mod EachByte
+mod Tops

@@ -1,2 +1,2 @@
 pub mod Field
-pub mod Tables
+pub mod EachByte

@@ -1,46 +1,50 @@
-// The field of 256 elements, in which x^8 = x^7 + x^2 + x + 1: sums are `^`, and products go by the powers of 2.
-//
-// A constant table is copied to the stack by each call that reads it, so callers take the two tables once, and lend them to `product`.
-pub mod logarithms;
-pub mod powers;
-
+// The field of 256 elements, in which x^8 = x^7 + x^2 + x + 1. Sums are `^`; products are shifts and sums, with no table, of eight bytes at once
+// that stand in one number.
 ghost use mathlib.Core.Path.{_≡_};
-ghost use Prim.Native.Nat.{_<_};
-ghost use Rattle.field.specs.Field.{power, times};
-ghost use Rattle.field.specs.Tables.{powerTable, logarithmTable};
+ghost use Rattle.field.specs.Field.{double, power, times};
+ghost use Rattle.field.specs.EachByte.{eachByte, timesEach};
 
-// The power of 2 with an exponent below 255.
-pub fn power_of(exponent: usize) -> u8
-    requires { ⌜ exponent < 255 ⌝ }
-    ensures { λ r. ⌜ r ≡ power exponent ⌝ }
+// Each of eight bytes, doubled: the bits that leave at the top stand alone, and each of them takes the polynomial off its own byte.
+fn double_each(bytes: u64) -> u64
+    ensures { λ r. ⌜ r ≡ eachByte double 8 bytes ⌝ }
 {
-    let table = powers::table();
-    table[exponent]
+    let tops = (bytes / 128) & 0x0101010101010101;
+    ((bytes - tops * 128) * 2) ^ (tops * 0x87)
 }
 
-// The exponent of the power of 2 that a byte is.
-fn logarithm_of(logarithms: &[u8; 256], a: u8) -> usize
-    requires { ⌜ (now logarithms ≡ logarithmTable) × (0 < a) ⌝ }
-    ensures { λ r. ⌜ (r < 255) × (power r ≡ a) ⌝ }
+// Each of eight bytes, times the byte a.
+pub fn times_each(bytes: u64, a: u8) -> u64
+    ensures { λ r. ⌜ r ≡ timesEach bytes a ⌝ }
 {
-    logarithms[a as usize] as usize
+    let mut bits = a;
+    let mut doubled = bytes;
+    let mut sum: u64 = 0;
+    let mut left: usize = 8;
+    while 0 < left {
+        sum = sum ^ ((bits % 2) as u64 * doubled);
+        bits = bits / 2;
+        doubled = double_each(doubled);
+        left -= 1;
+    }
+    sum
 }
 
-// The product of two bytes in the field.
-pub fn product(powers: &[u8; 255], logarithms: &[u8; 256], a: u8, b: u8) -> u8
-    requires { ⌜ (now powers ≡ powerTable) × (now logarithms ≡ logarithmTable) ⌝ }
+// The product of two bytes.
+pub fn product(a: u8, b: u8) -> u8
     ensures { λ r. ⌜ r ≡ times a b ⌝ }
 {
-    if a == 0 {
-        return 0;
+    (times_each(b as u64, a) % 256) as u8
+}
+
+// The power of 2 with an exponent: each is twice the one before.
+pub fn power_of(exponent: usize) -> u8
+    ensures { λ r. ⌜ r ≡ power exponent ⌝ }
+{
+    let mut power = 1;
+    let mut i: usize = 0;
+    while i < exponent {
+        power = product(2, power);
+        i += 1;
     }
-    if b == 0 {
-        return 0;
-    }
-    let sum = logarithm_of(logarithms, a) + logarithm_of(logarithms, b);
-    if sum < 255 {
-        powers[sum]
-    } else {
-        powers[sum - 255]
-    }
+    power
 }

@@ -1,1 +1,2 @@
 pub mod Interleaved
+mod Rows

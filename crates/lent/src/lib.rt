@@ -1,4 +1,6 @@
 // Writing into lent bytes, the one way in which the crates above change a buffer; and whether two parts hold the same bytes.
+pub mod numbers;
+
 ghost use mathlib.Core.Path.{_≡_};
 ghost use Prim.Native.Nat.{_+_, _-_, _≤_};
 ghost use lib.ListN.{length};

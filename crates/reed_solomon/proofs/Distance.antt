@@ -10,7 +10,7 @@ use lib.ListN.{length, length-append}
 use Rattle.field.specs.Field.{power, times}
 use Rattle.basics.proofs.Xor.{xor-cross, xor-zero-eq}
 use Rattle.field.proofs.Laws.{times-xor-left, zero-times, times-zero, power-lt}
-use Rattle.field.proofs.Tables.{no-zero-divisors}
+use Rattle.field.proofs.Powers.{no-zero-divisors}
 use Rattle.basics.specs.Lists.{zeros, Bytes}
 use Rattle.basics.proofs.Lists.{bytes-behind}
 use Rattle.division.specs.Division.{plus}

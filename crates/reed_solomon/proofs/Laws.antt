@@ -1,24 +1,21 @@
 -- The register of the code, place by place; a word is a codeword exactly where its last 16 bytes are the parity of the others; zeros in front.
 use mathlib.Core.Path.{_≡_, refl, sym, ap, ap₂, _∙_, subst}
 use mathlib.Core.Bool.{true}
-use mathlib.Core.List.{List, [], _∷_, _++_, tail, append-assoc}
+use mathlib.Core.List.{List, _++_, tail, append-assoc}
 use Prim.Native.Nat.{ℕ, _+_, _-_, _≤_, _<_}
-use native.Mathlib.Nat.{le-of-eq}
-use native.Mathlib.Numerals.{add-one}
 use native.Mathlib.Omega.{arith}
-use lib.Dec.{lit<, eqb}
+use lib.Dec.{eqb}
 use borrow.Author.Tests.{eq-eqb, eqb-true}
-use lib.Bits.{bitXor, xor-zero-r}
-use lib.ListN.{length, getD, List·getD-eq-default, length-append, take, drop, length-drop, take-append-drop}
+use lib.ListN.{length, getD, length-append, take, drop, length-drop, take-append-drop}
 use lib.Seq.{length-take-le, ext-getD, getD-drop, take-at, drop-at}
 use Rattle.basics.specs.Lists.{zeros, same}
-use Rattle.basics.proofs.Tests.{both-true, left-true, right-true, same-true, same-self}
+use Rattle.basics.proofs.Tests.{both-true, left-true, right-true, same-true, same-self, is-same}
 use Rattle.basics.proofs.Lists.{zeros-length}
 use Rattle.field.specs.Field.{times}
 use Rattle.field.proofs.Laws.{zero-times, times-xor-left}
 use Rattle.division.specs.Division.{plus, remainder}
 use Rattle.division.specs.Register.{step, feed}
-use Rattle.division.proofs.Register.{step-getD, step-length, feed-length, check-feed, word-remainder, plus-self, plus-zero-eq, check-zeros}
+use Rattle.division.proofs.Register.{step-length, feed-length, feed-turn, feed-end, check-feed, word-remainder, plus-self, plus-zero-eq, check-zeros}
 use Rattle.division.proofs.Linear.{check-plus}
 use Rattle.reed_solomon.specs.Code.{generator, parity, isCodeword, lengthened}
 use Rattle.reed_solomon.proofs.Factors.{generator-is}
@@ -26,32 +23,30 @@ use Rattle.reed_solomon.proofs.Factors.{generator-is}
 pub generator-length : length (tail generator) ≡ 16
 generator-length = ap (λ (l : List ℕ). length (tail l)) generator-is
 
--- ---- a step of the register
+-- ---- a register of 16 places, over any product: that of one word's bytes, and that of eight words' at once
 
-tail-at : (l : List ℕ) (k : ℕ) → getD l (k + 1) 0 ≡ getD (tail l) k 0
-tail-at [] k = refl
-tail-at (x ∷ l) k = ap (λ (i : ℕ). getD (x ∷ l) i 0) (add-one k)
+pub step-long : (times : ℕ → ℕ → ℕ) (register : List ℕ) (row : ℕ) → length register ≡ 16 → length (step times (tail generator) register row) ≡ 16
+step-long times register row long = step-length times (tail generator) register row (long ∙ sym generator-length) ∙ generator-length
 
-module _ (coefficients register : List ℕ) (byte : ℕ) (e : coefficients ≡ generator) (long : length register ≡ 16) where
-  -- the coefficient that leaves, with the byte
-  abbrev leaving : ℕ
-  leaving = bitXor (getD register 0 0) byte
+-- a loop: i coefficients of a message are in a register that began with zeros
+pub record Fed (times : ℕ → ℕ → ℕ) (message : List ℕ) (i : ℕ) (register : List ℕ) : Type 0 where
+  pub long : length register ≡ 16
+  pub rest : feed times (tail generator) register (drop i message) ≡ feed times (tail generator) (zeros 16) message
 
-  pub step-long : length (step times (tail generator) register byte) ≡ 16
-  step-long = step-length times (tail generator) register byte (long ∙ sym generator-length) ∙ generator-length
+pub fed-start : (times : ℕ → ℕ → ℕ) (message : List ℕ) → Fed times message 0 (zeros 16)
+fed-start times message = record { long = refl; rest = refl }
 
-  pub place : (k : ℕ) → k < 16
-      → bitXor (times leaving (getD coefficients (k + 1) 0)) (getD register (k + 1) 0) ≡ getD (step times (tail generator) register byte) k 0
-  place k h =
-      ap₂ (λ (x i : ℕ). bitXor (times leaving x) (getD register i 0)) (tail-at coefficients k ∙ ap (λ (l : List ℕ). getD (tail l) k 0) e) (add-one k)
-      ∙ sym (step-getD times (tail generator) register byte k (long ∙ sym generator-length) (subst (λ (n : ℕ). k < n) (sym generator-length) h))
+pub fed-turn : {times : ℕ → ℕ → ℕ} {message : List ℕ} {i : ℕ} {register next : List ℕ} → Fed times message i register → i < length message
+    → next ≡ step times (tail generator) register (getD message i 0) → Fed times message (i + 1) next
+fed-turn {times} {message} {i} {register} fed h e = record {
+  long = ap length e ∙ step-long times register (getD message i 0) (fed .long);
+  rest = ap (λ (r : List ℕ). feed times (tail generator) r (drop (i + 1) message)) e
+      ∙ sym (feed-turn times (tail generator) register message i h) ∙ fed .rest;
+}
 
-  -- the last place: nothing moves up into it
-  pub last-place : times leaving (getD coefficients 16 0) ≡ getD (step times (tail generator) register byte) 15 0
-  last-place =
-      sym (xor-zero-r (times leaving (getD coefficients 16 0)))
-      ∙ ap (bitXor (times leaving (getD coefficients 16 0))) (sym (List·getD-eq-default register 0 (le-of-eq long)))
-      ∙ place 15 (lit< tt)
+pub fed-all : {times : ℕ → ℕ → ℕ} {message : List ℕ} {i : ℕ} {register : List ℕ} → Fed times message i register → length message ≤ i
+    → register ≡ feed times (tail generator) (zeros 16) message
+fed-all {times} {message} {i} {register} fed h = sym (feed-end times (tail generator) register message i h) ∙ fed .rest
 
 -- ---- parity
 
@@ -157,6 +152,14 @@ module _ (word : List ℕ) (n : ℕ) (e : n + 16 ≡ length word) (h : length wo
 
   pub at-place : Codeword (lengthened word) → (k : ℕ) → getD (parity (take n word)) k 0 ≡ getD word (n + k) 0
   at-place c k = ap (λ (l : List ℕ). getD l k 0) (of-shorter c) ∙ getD-drop n word k 0
+
+-- the code's test: the last 16 bytes are compared
+pub codeword-same : (word : List ℕ) (n : ℕ) → n + 16 ≡ length word → length word ≤ 255
+    → isCodeword (lengthened word) ≡ same (drop n word) (parity (take n word))
+codeword-same word n e h =
+    is-same (isCodeword (lengthened word)) (drop n word) (parity (take n word))
+    (λ t. sym (of-shorter word n e h (true-codeword (lengthened word) t)))
+    (λ q. codeword-true (lengthened word) (shorter-codeword word n e h (sym q)))
 
 -- data of at most 239 bytes with its parity is a codeword
 pub coded : (message : List ℕ) → length message ≤ 239 → Codeword (lengthened (message ++ parity message))

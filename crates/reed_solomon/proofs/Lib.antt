@@ -1,5 +1,6 @@
 pub mod Factors
 pub mod Laws
+pub mod Rows
 pub mod Roots
 pub mod Places
 pub mod Distance

@@ -9,12 +9,11 @@ use lib.Dec.{T, T-not, eqb, eqb-refl, lit<}
 use lib.Bits.{bitXor, xor-lt, xor-self}
 use lib.ListN.{length, getD}
 use Rattle.field.specs.Field.{power, times, double, twice}
-use Rattle.field.specs.Tables.{powerTable, doublings}
 use Rattle.basics.proofs.Xor.{xor-cross, xor-zero-eq}
 use Rattle.basics.specs.Lists.{allBelow}
 use Rattle.basics.proofs.Tests.{below}
 use Rattle.field.proofs.Laws.{times-xor-left, times-xor-right, times-lt, times-comm, times-assoc, times-one, zero-times, times-zero, two-times, power-lt, power-add, power-round}
-use Rattle.field.proofs.Tables.{power-at, no-zero-divisors}
+use Rattle.field.proofs.Powers.{doublings, powers, power-at, no-zero-divisors}
 use Rattle.basics.specs.Lists.{Bytes}
 use Rattle.reed_solomon.proofs.Roots.{terms, terms-lt}
 
@@ -40,21 +39,21 @@ round-many zero r = ap power (ap (λ (x : ℕ). r + x) (zero-mul 255) ∙ add-ze
 round-many (suc m) r =
     ap power (ap (λ (x : ℕ). r + x) (suc-mul m 255) ∙ sym (add-assoc r (m * 255) 255)) ∙ power-round (r + m * 255) ∙ round-many m r
 
-power-mod : (n : ℕ) → power n ≡ getD powerTable (n % 255) 0
+power-mod : (n : ℕ) → power n ≡ getD powers (n % 255) 0
 power-mod n = ap power (sym (mod-add-div' n 255)) ∙ round-many (n / 255) (n % 255) ∙ sym (power-at (n % 255) (mod-lt n (lit< tt)))
 
 -- 2^(11 k) is not 1 for k from 1 to 254, computed
 other-test : ℕ → Bool
-other-test k = not (eqb (getD powerTable (11 * suc k % 255) 0) 1)
+other-test k = not (eqb (getD powers (11 * suc k % 255) 0) 1)
 
 other-tests : T (allBelow 254 other-test)
-unfolding other-test powerTable doublings double twice
+unfolding other-test powers doublings double twice
 other-tests = tt
 
 not-one : (k : ℕ) → k < 254 → power (11 * suc k) ≡ 1 → ⊥
 unfolding other-test
 not-one k h e =
-    let x = getD powerTable (11 * suc k % 255) 0 in
+    let x = getD powers (11 * suc k % 255) 0 in
     T-not (eqb x 1) (below 254 other-test other-tests k h) (subst (λ (y : ℕ). T (eqb y 1)) (sym (sym (power-mod (11 * suc k)) ∙ e)) (eqb-refl 1))
 
 pub locator-other : (n k : ℕ) → k < 254 → locator n ≡ locator (n + suc k) → ⊥

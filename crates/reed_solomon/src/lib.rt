@@ -2,18 +2,46 @@
 pub mod register;
 
 ghost use mathlib.Core.Path.{_≡_};
+ghost use mathlib.Core.List.{tail};
 ghost use Prim.Native.Nat.{_≤_};
 ghost use lib.ListN.{length};
-ghost use Rattle.field.specs.Tables.{powerTable, logarithmTable};
-ghost use Rattle.reed_solomon.specs.Code.{parity, isCodeword, lengthened};
+ghost use Rattle.basics.specs.Lists.{zeros};
+ghost use Rattle.field.specs.EachByte.{timesEach};
+ghost use Rattle.division.specs.Register.{feed};
+ghost use Rattle.reed_solomon.specs.Code.{generator, parity, isCodeword, lengthened};
 
 // The 16 parity bytes of some data.
 pub fn parity_of(message: &[u8]) -> [u8; 16]
     ensures { λ r. ⌜ r ≡ parity (now (message .entry)) ⌝ }
 {
-    let powers = field::powers::table();
-    let logarithms = field::logarithms::table();
-    register::feed(&powers, &logarithms, message)
+    let registers = feed(message);
+    let mut parity = [0u8; 16];
+    let mut j = 0;
+    while j < 16 {
+        parity[j] = (registers[j] % 256) as u8;
+        j += 1;
+    }
+    parity
+}
+
+// What registers of zeros hold after a message, whose bytes are rows in which the first word alone has a byte.
+fn feed(message: &[u8]) -> [u64; 16]
+    ensures { λ r. ⌜ r ≡ feed timesEach (tail generator) (zeros 16) (now (message .entry)) ⌝ }
+{
+    let mut registers = [0u64; 16];
+    let mut i = 0;
+    while i < message.len() {
+        let next = register::shift(registers, wide(message[i]));
+        registers = next;
+        i += 1;
+    }
+    registers
+}
+
+fn wide(byte: u8) -> u64
+    ensures { λ r. ⌜ r ≡ byte ⌝ }
+{
+    byte as u64
 }
 
 // Whether a word, with the zeros in front that are not sent, is a codeword.
@@ -21,26 +49,10 @@ pub fn is_codeword(word: &[u8]) -> bool
     requires { ⌜ 16 ≤ length (now word) ⌝ }
     ensures { λ r. ⌜ r ≡ isCodeword (lengthened (now (word .entry))) ⌝ }
 {
-    let powers = field::powers::table();
-    let logarithms = field::logarithms::table();
-    is_word_of_code(&powers, &logarithms, word)
-}
-
-pub fn is_word_of_code(powers: &[u8; 255], logarithms: &[u8; 256], word: &[u8]) -> bool
-    requires { ⌜ (now powers ≡ powerTable) × (now logarithms ≡ logarithmTable) × (16 ≤ length (now word)) ⌝ }
-    ensures { λ r. ⌜ r ≡ isCodeword (lengthened (now (word .entry))) ⌝ }
-{
     if 255 < word.len() {
         return false;
     }
     let end = word.len() - 16;
-    let parity = register::feed(powers, logarithms, &word[..end]);
-    let mut i = 0;
-    while i < 16 {
-        if parity[i] != word[end + i] {
-            return false;
-        }
-        i += 1;
-    }
-    true
+    let parity = parity_of(&word[..end]);
+    lent::are_same(&word[end..], &parity)
 }

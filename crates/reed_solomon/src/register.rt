@@ -1,10 +1,10 @@
-// Long division by the generator, with a register of 16 bytes.
+// Long division by the generator, with a register of 16 places for each of eight words: a row has a byte of each, word k's at byte k.
+use field::times_each;
 ghost use mathlib.Core.Path.{_≡_};
 ghost use mathlib.Core.List.{tail};
-ghost use Rattle.field.specs.Field.{times};
-ghost use Rattle.field.specs.Tables.{powerTable, logarithmTable};
+ghost use Rattle.field.specs.EachByte.{timesEach};
 ghost use Rattle.division.specs.Register.{step};
-ghost use Rattle.reed_solomon.specs.Code.{generator, parity};
+ghost use Rattle.reed_solomon.specs.Code.{generator};
 
 // The product of the 16 factors x - 2^(11 j), j from 120 to 135, the highest power first.
 const GENERATOR: [u8; 17] = [
@@ -33,41 +33,27 @@ pub fn generator() -> [u8; 17]
     GENERATOR
 }
 
-// One byte goes into the register.
-fn shift(
-    powers: &[u8; 255],
-    logarithms: &[u8; 256],
-    coefficients: &[u8; 17],
-    register: [u8; 16],
-    byte: u8,
-) -> [u8; 16]
-    requires { ⌜ (now powers ≡ powerTable) × (now logarithms ≡ logarithmTable) × (now coefficients ≡ generator) ⌝ }
-    ensures { λ r. ⌜ r ≡ step times (tail generator) register byte ⌝ }
+// A row goes into the eight registers. The products are written out, so that the compiler knows each coefficient and shares the doublings.
+pub fn shift(registers: [u64; 16], row: u64) -> [u64; 16]
+    ensures { λ r. ⌜ r ≡ step timesEach (tail generator) registers row ⌝ }
 {
-    let leaving = register[0] ^ byte;
-    let mut next = [0u8; 16];
-    let mut j = 0;
-    while j < 15 {
-        next[j] = field::product(powers, logarithms, leaving, coefficients[j + 1])
-            ^ register[j + 1];
-        j += 1;
-    }
-    next[15] = field::product(powers, logarithms, leaving, coefficients[16]);
-    next
-}
-
-// What a register of zeros holds after the message: its parity.
-pub fn feed(powers: &[u8; 255], logarithms: &[u8; 256], message: &[u8]) -> [u8; 16]
-    requires { ⌜ (now powers ≡ powerTable) × (now logarithms ≡ logarithmTable) ⌝ }
-    ensures { λ r. ⌜ r ≡ parity (now (message .entry)) ⌝ }
-{
-    let coefficients = generator();
-    let mut register = [0u8; 16];
-    let mut i = 0;
-    while i < message.len() {
-        let next = shift(powers, logarithms, &coefficients, register, message[i]);
-        register = next;
-        i += 1;
-    }
-    register
+    let leaving = registers[0] ^ row;
+    [
+        times_each(leaving, GENERATOR[1]) ^ registers[1],
+        times_each(leaving, GENERATOR[2]) ^ registers[2],
+        times_each(leaving, GENERATOR[3]) ^ registers[3],
+        times_each(leaving, GENERATOR[4]) ^ registers[4],
+        times_each(leaving, GENERATOR[5]) ^ registers[5],
+        times_each(leaving, GENERATOR[6]) ^ registers[6],
+        times_each(leaving, GENERATOR[7]) ^ registers[7],
+        times_each(leaving, GENERATOR[8]) ^ registers[8],
+        times_each(leaving, GENERATOR[9]) ^ registers[9],
+        times_each(leaving, GENERATOR[10]) ^ registers[10],
+        times_each(leaving, GENERATOR[11]) ^ registers[11],
+        times_each(leaving, GENERATOR[12]) ^ registers[12],
+        times_each(leaving, GENERATOR[13]) ^ registers[13],
+        times_each(leaving, GENERATOR[14]) ^ registers[14],
+        times_each(leaving, GENERATOR[15]) ^ registers[15],
+        times_each(leaving, GENERATOR[16]),
+    ]
 }

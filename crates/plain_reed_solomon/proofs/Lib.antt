@@ -1,0 +1,2 @@
+mod Register
+mod Writes
