@@ -9,7 +9,7 @@ fn double_each(bytes: u64) -> u64
     ensures { λ r. ⌜ r ≡ eachByte double 8 bytes ⌝ }
 {
     let tops = (bytes / 128) & 0x0101010101010101;
-    ((bytes - tops * 128) * 2) ^ (tops * 0x87)
+    ((bytes & 0x7F7F7F7F7F7F7F7F) * 2) ^ (tops * 0x87)
 }
 
 // Each of eight bytes, times the byte a.
