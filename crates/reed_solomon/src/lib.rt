@@ -31,17 +31,11 @@ fn feed(message: &[u8]) -> [u64; 16]
     let mut registers = [0u64; 16];
     let mut i = 0;
     while i < message.len() {
-        let next = register::shift(registers, wide(message[i]));
+        let next = register::shift(registers, message[i] as u64);
         registers = next;
         i += 1;
     }
     registers
-}
-
-fn wide(byte: u8) -> u64
-    ensures { λ r. ⌜ r ≡ byte ⌝ }
-{
-    byte as u64
 }
 
 // Whether a word, with the zeros in front that are not sent, is a codeword.

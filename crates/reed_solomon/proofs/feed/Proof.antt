@@ -1,12 +1,8 @@
 use borrow.Author.Needs.{needs}
 use native.Mathlib.Omega.{arith}
-use mathlib.Core.Path.{ap, _∙_}
-use mathlib.Core.List.{tail}
 use Prim.Native.Nat.{_-_, _≤_}
 use lib.ListN.{length}
 use Rattle.field.specs.EachByte.{timesEach}
-use Rattle.division.specs.Register.{step}
-use Rattle.reed_solomon.specs.Code.{generator}
 use Rattle.reed_solomon.proofs.Laws.{Fed, fed-start, fed-turn, fed-all}
 use Rattle.reed_solomon.proofs.feed.Statement.{statement}
 use Rattle.reed_solomon.proofs.feed.Tie as tie
@@ -20,11 +16,11 @@ abbrev μ-loop : tie.MeasureT-loop
 loop-holds : tie.Need-loop-holds Inv-loop μ-loop
 loop-holds c = (search needs, fed-start timesEach (c .before .args .message .now))
 
-shared-slice-read-wide : tie.Need-shared-slice-read-wide Inv-loop μ-loop
-shared-slice-read-wide c = search needs
+shared-slice-read-shift : tie.Need-shared-slice-read-shift Inv-loop μ-loop
+shared-slice-read-shift c = search needs
 
-wide-requires : tie.Need-wide-requires Inv-loop μ-loop
-wide-requires c κs = search needs
+cast-shift : tie.Need-cast-shift Inv-loop μ-loop
+cast-shift c = omega (arith, c .shared-slice-known2 .given (c .before .before .loop .i))
 
 shift-requires : tie.Need-shift-requires Inv-loop μ-loop
 shift-requires c κs = search needs
@@ -36,9 +32,7 @@ loop-less : tie.Need-loop-less Inv-loop μ-loop
 loop-less c = search needs
 
 loop-again : tie.Need-loop-again Inv-loop μ-loop
-loop-again c =
-    let loop = c .before .before .before .before .loop in
-    (search needs, fed-turn (loop .inv .1) (omega arith) (c .shift .ensures ∙ ap (step timesEach (tail generator) (loop .registers)) (c .before .wide .ensures)))
+loop-again c = (search needs, fed-turn (c .before .before .before .loop .inv .1) (omega arith) (c .shift .ensures))
 
 returns : tie.Need-returns Inv-loop μ-loop
 returns c = fed-all (c .before .loop .inv .1) (omega arith)
@@ -50,8 +44,8 @@ feed-spec =
     Inv-loop
     μ-loop
     loop-holds
-    shared-slice-read-wide
-    wide-requires
+    shared-slice-read-shift
+    cast-shift
     shift-requires
     add-i
     loop-less
