@@ -2,10 +2,10 @@
 use mathlib.Core.Path.{_≡_, refl, sym, ap, _∙_, subst}
 use mathlib.Core.List.{List, [], _∷_, _++_}
 use Prim.Native.Nat.{ℕ, zero, suc, _+_, _-_, _≤_, _<_}
-use native.Mathlib.Nat.{not-suc-le-zero, le-of-suc-le-suc, add-zero, add-suc, suc-add}
+use native.Mathlib.Nat.{not-suc-le-zero, le-of-suc-le-suc, add-zero, zero-add, add-suc, suc-add}
 use native.Mathlib.Omega.{arith}
-use lib.ListN.{length, getD, take, drop, length-drop, length-replicate, take-append-drop}
-use lib.Seq.{take-all, take-add, drop-at, length-take-le}
+use lib.ListN.{length, getD, take, drop, drop-of-length-le, length-drop, length-replicate, take-append-drop}
+use lib.Seq.{take-all, take-add, drop-at, drop-cons, length-take-le, ext-getD, getD-take}
 use Rattle.basics.specs.Lists.{zeros, Bytes, entries}
 
 pub zeros-length : (n : ℕ) → length (zeros n) ≡ n
@@ -34,10 +34,15 @@ pub bytes-append : (p q : List ℕ) → Bytes p → Bytes q → Bytes (p ++ q)
 bytes-append [] q g h = h
 bytes-append (x ∷ p) q g h = (g .0, bytes-append p q (g .1) h)
 
--- numbers below 256, place by place
+-- numbers below 256, place by place, both ways
 pub bytes-each : (l : List ℕ) → ((i : ℕ) → getD l i 0 < 256) → Bytes l
 bytes-each [] h = tt
 bytes-each (x ∷ l) h = (h 0, bytes-each l (λ i. h (suc i)))
+
+pub byte-at : (l : List ℕ) → Bytes l → (i : ℕ) → getD l i 0 < 256
+byte-at [] h i = omega arith
+byte-at (b ∷ l) h zero = h .0
+byte-at (b ∷ l) h (suc i) = byte-at l (h .1) i
 
 pub bytes-drop : (n : ℕ) (l : List ℕ) → Bytes l → Bytes (drop n l)
 bytes-drop n l h = bytes-behind (take n l) (drop n l) (subst Bytes (sym (take-append-drop n l)) h)
@@ -55,6 +60,23 @@ unfolding entries
 entries-at f i zero k h = absurd (not-suc-le-zero h)
 entries-at f i (suc n) zero h = ap f (sym (add-zero i))
 entries-at f i (suc n) (suc k) h = entries-at f (suc i) n k (le-of-suc-le-suc h) ∙ ap f (suc-add i k ∙ sym (add-suc i k))
+
+-- ---- a list, entry by entry
+
+abbrev pub byte : List ℕ → ℕ → ℕ
+byte l i = getD l i 0
+
+pub entries-front : (l : List ℕ) (n : ℕ) → n ≤ length l → entries (byte l) 0 n ≡ take n l
+entries-front l n h =
+    ext-getD 0 (entries (byte l) 0 n) (take n l) (entries-length (byte l) 0 n ∙ sym (length-take-le n l h))
+    (λ k hk.
+    let k-lt = rw (entries-length (byte l) 0 n) at hk in
+    entries-at (byte l) 0 n k k-lt ∙ ap (byte l) (zero-add k) ∙ sym (getD-take n l k 0 k-lt))
+
+pub entries-rest : (l : List ℕ) (k n : ℕ) → length l ≡ k + n → entries (byte l) k n ≡ drop k l
+unfolding entries
+entries-rest l k zero e = let h : length l ≤ k = omega arith in sym (drop-of-length-le l h)
+entries-rest l k (suc n) e = ap (λ (t : List ℕ). byte l k ∷ t) (entries-rest l (suc k) n (omega arith)) ∙ sym (drop-cons l k 0 (omega arith))
 
 -- ---- parts: `&l[k..]`, `&l[from..from + n]`, and a part of a front
 

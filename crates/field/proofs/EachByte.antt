@@ -13,21 +13,20 @@ use Rattle.field.specs.EachByte.{eachByte, timesEach}
 use Rattle.field.proofs.Double.{double-lt}
 use Rattle.field.proofs.Laws.{sum-lt, times-lt}
 
--- a function that takes bytes to bytes
-abbrev pub Byte : (ℕ → ℕ) → Type 0
-Byte f = (b : ℕ) → b < 256 → f b < 256
+abbrev pub KeepsBytes : (ℕ → ℕ) → Type 0
+KeepsBytes f = (b : ℕ) → b < 256 → f b < 256
 
 byte : (x : ℕ) → x % 256 < 256
 byte x = mod-lt x (lit< tt)
 
-pub each-lt : (f : ℕ → ℕ) → Byte f → (n x : ℕ) → eachByte f n x < 256 ^ n
+pub each-lt : (f : ℕ → ℕ) → KeepsBytes f → (n x : ℕ) → eachByte f n x < 256 ^ n
 unfolding eachByte
 each-lt f hf zero x = lit< tt
 each-lt f hf (suc n) x = omega (arith, each-lt f hf n (x / 256), hf (x % 256) (byte x), pow-suc 256 n)
 
 -- ---- the lowest byte, and those above it
 
-module _ (f : ℕ → ℕ) (hf : Byte f) (n x : ℕ) where
+module _ (f : ℕ → ℕ) (hf : KeepsBytes f) (n x : ℕ) where
   each-low : eachByte f (suc n) x % 256 ≡ f (x % 256)
   unfolding eachByte
   each-low = omega (arith, hf (x % 256) (byte x))
@@ -37,7 +36,7 @@ module _ (f : ℕ → ℕ) (hf : Byte f) (n x : ℕ) where
   each-high = omega (arith, hf (x % 256) (byte x))
 
 -- byte k of the result is f of byte k
-pub each-at : (f : ℕ → ℕ) → Byte f → (n k x : ℕ) → k < n → byteAt k (eachByte f n x) ≡ f (byteAt k x)
+pub each-at : (f : ℕ → ℕ) → KeepsBytes f → (n k x : ℕ) → k < n → byteAt k (eachByte f n x) ≡ f (byteAt k x)
 each-at f hf zero k x h = absurd (not-suc-le-zero h)
 each-at f hf (suc n) zero x h = each-low f hf n x
 each-at f hf (suc n) (suc k) x h = ap (byteAt k) (each-high f hf n x) ∙ each-at f hf n k (x / 256) (le-of-suc-le-suc h)
@@ -49,14 +48,14 @@ unfolding eachByte
 each-same f g e zero x = refl
 each-same f g e (suc n) x = ap₂ (λ (a b : ℕ). a * 2 ^ 8 + b) (each-same f g e n (x / 256)) (e (x % 256))
 
-each-plus : (f g : ℕ → ℕ) → Byte f → Byte g → (n x : ℕ) → eachByte (λ b. bitXor (f b) (g b)) n x ≡ bitXor (eachByte f n x) (eachByte g n x)
+each-plus : (f g : ℕ → ℕ) → KeepsBytes f → KeepsBytes g → (n x : ℕ) → eachByte (λ b. bitXor (f b) (g b)) n x ≡ bitXor (eachByte f n x) (eachByte g n x)
 unfolding eachByte
 each-plus f g hf hg zero x = refl
 each-plus f g hf hg (suc n) x =
     ap (λ (a : ℕ). a * 2 ^ 8 + bitXor (f (x % 256)) (g (x % 256))) (each-plus f g hf hg n (x / 256))
     ∙ sym (xor-block 8 (eachByte f n (x / 256)) (eachByte g n (x / 256)) (f (x % 256)) (g (x % 256)) (hf _ (byte x)) (hg _ (byte x)))
 
-each-each : (f g : ℕ → ℕ) → Byte g → (n x : ℕ) → eachByte f n (eachByte g n x) ≡ eachByte (λ b. f (g b)) n x
+each-each : (f g : ℕ → ℕ) → KeepsBytes g → (n x : ℕ) → eachByte f n (eachByte g n x) ≡ eachByte (λ b. f (g b)) n x
 unfolding eachByte
 each-each f g hg zero x = refl
 each-each f g hg (suc n) x =

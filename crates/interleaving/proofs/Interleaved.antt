@@ -92,13 +92,13 @@ module _ (l : List ℕ) (k : ℕ) where
   word-parity-at : (j : ℕ) → j < 16 → getD word (239 + j) 0 ≡ getD l (1912 + k + 8 * j) 0
   word-parity-at j h = eighth-at 255 k l (239 + j) (omega arith) ∙ ap (λ (n : ℕ). getD l n 0) (omega arith)
 
-  pub word-codeword : ((j : ℕ) → j < 16 → getD l (1912 + k + 8 * j) 0 ≡ getD (parity (everyEighth 239 k l)) j 0) → Codeword word
+  word-codeword : ((j : ℕ) → j < 16 → getD l (1912 + k + 8 * j) 0 ≡ getD (parity (everyEighth 239 k l)) j 0) → Codeword word
   word-codeword f =
       subst Codeword (lengthened-whole word (eighth-length 255 k l))
       (by-places word 239 (sym (eighth-length 255 k l)) (omega (arith, eighth-length 255 k l))
       (λ j h. ap (λ (q : List ℕ). getD (parity q) j 0) (take-eighth 239 255 k l (lib.Dec.lit≤ tt)) ∙ sym (f j h) ∙ sym (word-parity-at j h)))
 
-  pub of-word : Codeword word → (j : ℕ) → j < 16 → getD l (1912 + k + 8 * j) 0 ≡ getD (parity (everyEighth 239 k l)) j 0
+  of-word : Codeword word → (j : ℕ) → j < 16 → getD l (1912 + k + 8 * j) 0 ≡ getD (parity (everyEighth 239 k l)) j 0
   of-word c j h =
       sym (word-parity-at j h)
       ∙ sym (at-place word 239 (sym (eighth-length 255 k l)) (omega (arith, eighth-length 255 k l))

@@ -7,7 +7,7 @@ use native.Mathlib.Omega.{arith}
 use lib.Dec.{lit<}
 use lib.ListN.{length, getD, take, drop, drop-of-length-le, take-append-drop, length-map}
 use lib.Seq.{ext-getD, length-take-le, drop-at}
-use Rattle.basics.specs.Lists.{entries, same}
+use Rattle.basics.specs.Lists.{Bytes, entries, same}
 use Rattle.basics.specs.Numbers.{numberAt}
 use Rattle.basics.proofs.Lists.{entries-length, entries-at}
 use Rattle.basics.proofs.Numbers.{byteAt, number-byte}
@@ -30,14 +30,14 @@ module _ (message : List ℕ) where
   unfolding rows
   row-at i h = entries-at (λ i. numberAt (8 * i) 8 message) 0 239 i h ∙ ap (λ (j : ℕ). numberAt (8 * j) 8 message) (zero-add i)
 
-module _ (message : List ℕ) (b : (i : ℕ) → getD message i 0 < 256) where
+module _ (message : List ℕ) (bytes : Bytes message) where
   word-rows : (k : ℕ) → k < 8 → wordIn k (rows message) ≡ everyEighth 239 k message
   word-rows k h =
       let long = length-map (rows message) (byteAt k) ∙ rows-length message in
       ext-getD 0 (wordIn k (rows message)) (everyEighth 239 k message) (long ∙ sym (eighth-length 239 k message))
       (λ i hi.
       let short : i < 239 = omega (arith, long) in
-      word-at k (rows message) i ∙ ap (byteAt k) (row-at message i short) ∙ number-byte message b 8 (8 * i) k h
+      word-at k (rows message) i ∙ ap (byteAt k) (row-at message i short) ∙ number-byte message bytes (8 * i) 8 k h
       ∙ ap (λ (j : ℕ). getD message j 0) (add-comm (8 * i) k) ∙ sym (eighth-at 239 k message i short))
 
   parity-at : (k j : ℕ) → k < 8 → byteAt k (getD (registersOf (rows message)) j 0) ≡ getD (parity (everyEighth 239 k message)) j 0

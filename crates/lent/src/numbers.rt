@@ -6,6 +6,7 @@ ghost use Rattle.basics.specs.Numbers.{lowFirst, numberAt};
 ghost use Rattle.lent.specs.Written.{written};
 ghost use Rattle.lent.specs.Numbers.{bytesOf};
 
+// Eight bytes as a number. A function of bytes and not of a buffer, so that it asks for no index; the compiler makes one load of it.
 fn number_of(a: u8, b: u8, c: u8, d: u8, e: u8, f: u8, g: u8, h: u8) -> u64
     ensures { λ r. ⌜ r ≡ a + 256 * (b + 256 * (c + 256 * (d + 256 * (e + 256 * (f + 256 * (g + 256 * (h + 256 * 0))))))) ⌝ }
 {
@@ -37,7 +38,7 @@ pub fn number_at(bytes: &[u8], at: usize) -> u64
 }
 
 // Writes a number's eight bytes from index at on.
-pub fn write_number(buffer: &mut [u8], at: usize, number: u64)
+fn write_number(buffer: &mut [u8], at: usize, number: u64)
     requires { ⌜ at + 8 ≤ length (now buffer) ⌝ }
     ensures { λ _. ⌜ now (buffer .exit) ≡ written (now (buffer .entry)) at (lowFirst 8 number) ⌝ }
 {

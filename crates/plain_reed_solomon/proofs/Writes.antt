@@ -56,7 +56,7 @@ spread-other (x ∷ xs) k l i f =
     spread-other xs (k + 8) (set l k x) i (λ j e. f (suc j) (omega arith))
     ∙ getD-set-other l k i x 0 (λ e. f 0 (omega arith))
 
--- ---- the code's eight writes: the parities of the words below n are written
+-- ---- the eight writes: the parities of the words below n are written
 
 unfoldable pub withParities : ℕ → List ℕ → List ℕ
 withParities zero l = l
@@ -99,7 +99,6 @@ parity-there l long (suc n) k j hn hk hj =
     spread-other p (1912 + n) before (1912 + k + 8 * j) (λ i e. absurd (omega arith)) ∙ parity-there l long n k j (omega arith) less hj)
     (eq-or-lt-of-le (le-of-suc-le-suc hk))
 
--- the eight writes
 pub all-parities : (l : List ℕ) → length l ≡ 2040 → withParities 8 l ≡ codedPayload (take 1912 l)
 all-parities l long =
     let message = take 1912 l in
@@ -109,7 +108,7 @@ all-parities l long =
     (λ k j hk hj.
     parity-there l long 8 k j (lit≤ tt) hk hj ∙ ap (λ (q : List ℕ). getD (parity q) j 0) (eighth-same k l message hk same))
 
--- the word that the code gathers, as the code judges it
+-- the word that is gathered, as it is judged
 pub in-code : (l : List ℕ) (k : ℕ) (gathered : List ℕ) → gathered ≡ everyEighth 255 k l
     → isCodeword (lengthened gathered) ≡ isCodeword (everyEighth 255 k l)
 in-code l k gathered e = ap isCodeword (ap lengthened e ∙ lengthened-whole (everyEighth 255 k l) (eighth-length 255 k l))

@@ -3,4 +3,3 @@ pub mod Calls
 pub mod Sent
 pub mod Received
 pub mod Bits
-pub mod Numbers

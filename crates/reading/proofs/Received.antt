@@ -11,10 +11,11 @@ use Rattle.basics.specs.Lists.{Bytes, entries}
 use Rattle.lent.proofs.Outcome.{gate}
 use Rattle.crc.specs.Crc.{crc-16}
 use Rattle.basics.specs.Numbers.{numberAt}
+use Rattle.basics.proofs.Lists.{byte, byte-at, entries-front, entries-rest}
+use Rattle.basics.proofs.Numbers.{bytes-of-number, number-lt}
 use Rattle.fast_channel.specs.FastChannel.{messageOf, payloadRule}
 use Rattle.header.specs.Header.{fieldBytes, headerBytes, rxfnRule, headerFits}
 use Rattle.reading.specs.Reading.{fieldsOf, headerOf, sumHolds, reservedOnes, rulesHold, headerRefusal}
-use Rattle.reading.proofs.Numbers.{byte, byte-at, bytes-of-number, number-lt, entries-front, entries-all}
 use Rattle.fast_channel.proofs.Channel.{Carries, message-carries}
 use Rattle.reading.proofs.Bits.{d4-again}
 use Rattle.reading.proofs.Sent.{fits-header}
@@ -84,4 +85,4 @@ module _ (d : List ℕ) (bytes : Bytes d) (size : length d ≡ 16) (none : heade
       let sum = crc-16 (fieldBytes (headerOf d)) in
       let high : sum / 256 % 256 ≡ getD d 14 0 = omega (arith, sum-again, byte-at d bytes 14, byte-at d bytes 15) in
       let low : sum % 256 ≡ getD d 15 0 = omega (arith, sum-again, byte-at d bytes 15) in
-      rw (high, low, fields-again) (entries-all d 16 size)
+      rw (high, low, fields-again) (entries-rest d 0 16 size)

@@ -12,7 +12,7 @@ use Rattle.header.specs.Header.{flagsByte, channelByte, fieldBytes, headerBytes
 use Rattle.reading.specs.Reading.{fieldsOf, headerOf, sumHolds, reservedOnes, rulesHold, headerRefusal}
 use Rattle.fast_channel.specs.declared.FastChannel.{FastChannel}
 use Rattle.header.specs.declared.Header.{Header}
-use Rattle.reading.proofs.Numbers.{number-of-bytes}
+use Rattle.basics.proofs.Numbers.{number-of-bytes}
 use Rattle.fast_channel.proofs.Channel.{message-back, rule-kept, payload-lt, opcode-lt}
 use Rattle.reading.proofs.Bits.{d4-ack, d4-valid, d4-kind}
 

@@ -1,8 +1,10 @@
 -- The generator's 17 coefficients are the product of its 16 factors: antt computes the roots, each from the one before, and then the product.
 use mathlib.Core.Path.{_≡_, refl, sym, ap, ap₂, _∙_}
-use mathlib.Core.List.{List, [], _∷_}
+use mathlib.Core.List.{List, [], _∷_, tail}
 use Prim.Native.Nat.{ℕ, zero, suc, _+_, _*_}
 use native.Mathlib.Omega.{arith}
+use lib.Dec.{lit<}
+use Rattle.basics.specs.Lists.{Bytes}
 use Rattle.field.specs.Field.{power, times, sumOver, double, twice}
 use Rattle.field.proofs.Laws.{power-add}
 use Rattle.division.specs.Division.{plus, scale, product}
@@ -10,6 +12,33 @@ use Rattle.reed_solomon.specs.Code.{factors, generator}
 
 abbrev pub coefficients : List ℕ
 coefficients = 1 ∷ 165 ∷ 105 ∷ 27 ∷ 159 ∷ 104 ∷ 152 ∷ 101 ∷ 74 ∷ 101 ∷ 152 ∷ 104 ∷ 159 ∷ 27 ∷ 105 ∷ 165 ∷ 1 ∷ []
+
+pub coefficients-are-bytes : Bytes (tail coefficients)
+coefficients-are-bytes = (
+  lit< tt,
+  (
+    lit< tt,
+    (
+      lit< tt,
+      (
+        lit< tt,
+        (
+          lit< tt,
+          (
+            lit< tt,
+            (
+              lit< tt,
+              (
+                lit< tt,
+                (lit< tt, (lit< tt, (lit< tt, (lit< tt, (lit< tt, (lit< tt, (lit< tt, (lit< tt, tt)))))))),
+              ),
+            ),
+          ),
+        ),
+      ),
+    ),
+  ),
+)
 
 -- ---- the roots, counted from the first: as powers of 2 they would take some 1,400 doublings each
 

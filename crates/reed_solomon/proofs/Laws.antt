@@ -1,4 +1,4 @@
--- The register of the code, place by place; a word is a codeword exactly where its last 16 bytes are the parity of the others; zeros in front.
+-- The register of the code, as a loop feeds it; a word is a codeword exactly where its last 16 bytes are the parity of the others; zeros in front.
 use mathlib.Core.Path.{_≡_, refl, sym, ap, ap₂, _∙_, subst}
 use mathlib.Core.Bool.{true}
 use mathlib.Core.List.{List, _++_, tail, append-assoc}
@@ -28,6 +28,9 @@ generator-length = ap (λ (l : List ℕ). length (tail l)) generator-is
 pub step-long : (times : ℕ → ℕ → ℕ) (register : List ℕ) (row : ℕ) → length register ≡ 16 → length (step times (tail generator) register row) ≡ 16
 step-long times register row long = step-length times (tail generator) register row (long ∙ sym generator-length) ∙ generator-length
 
+pub fed-length : (times : ℕ → ℕ → ℕ) (message : List ℕ) → length (feed times (tail generator) (zeros 16) message) ≡ 16
+fed-length times message = feed-length times (tail generator) (zeros 16) message (sym generator-length) ∙ generator-length
+
 -- a loop: i coefficients of a message are in a register that began with zeros
 pub record Fed (times : ℕ → ℕ → ℕ) (message : List ℕ) (i : ℕ) (register : List ℕ) : Type 0 where
   pub long : length register ≡ 16
@@ -56,8 +59,7 @@ unfolding parity
 parity-feed message = check-feed times (tail generator) message 15 generator-length
 
 pub parity-length : (message : List ℕ) → length (parity message) ≡ 16
-parity-length message =
-    ap length (parity-feed message) ∙ feed-length times (tail generator) (zeros 16) message (sym generator-length) ∙ generator-length
+parity-length message = ap length (parity-feed message) ∙ fed-length times message
 
 -- zeros in front of a message change nothing
 pub parity-zeros : (n : ℕ) (message : List ℕ) → parity (zeros n ++ message) ≡ parity message

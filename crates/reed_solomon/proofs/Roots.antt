@@ -17,7 +17,7 @@ use Rattle.basics.specs.Lists.{zeros, Bytes}
 use Rattle.division.specs.Division.{plus, scale, remainder}
 use Rattle.division.proofs.Register.{scale-length}
 use Rattle.division.proofs.Identity.{plus-length-le}
-use Rattle.reed_solomon.proofs.Factors.{coefficients, rootAt, root-is, generator-is}
+use Rattle.reed_solomon.proofs.Factors.{coefficients, coefficients-are-bytes, rootAt, root-is, generator-is}
 use Rattle.reed_solomon.proofs.Laws.{Codeword}
 
 -- the value at x of a polynomial whose coefficients before those of the list have the value a
@@ -82,9 +82,6 @@ root-test i = eqb (value (rootAt i) 1 (tail coefficients)) 0
 root-tests : T (allBelow 16 root-test)
 unfolding root-test rootAt value power times sumOver double twice
 root-tests = tt
-
-coefficients-are-bytes : Bytes (tail coefficients)
-coefficients-are-bytes = (lit< tt, (lit< tt, (lit< tt, (lit< tt, (lit< tt, (lit< tt, (lit< tt, (lit< tt, (lit< tt, (lit< tt, (lit< tt, (lit< tt, (lit< tt, (lit< tt, (lit< tt, (lit< tt, tt))))))))))))))))
 
 pub root : (i : ℕ) → i < 16 → value (power (11 * (120 + i))) 1 (tail coefficients) ≡ 0
 unfolding root-test

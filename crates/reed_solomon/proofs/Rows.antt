@@ -1,14 +1,14 @@
 -- Eight registers at once: byte k of what they hold is what the register of word k would hold by itself.
 use mathlib.Core.Path.{_≡_, refl, sym, ap, ap₂, _∙_, subst}
 use mathlib.Core.List.{List, [], _∷_, _++_, tail, map}
-use Prim.Native.Nat.{ℕ, zero, suc, _+_, _≤_, _<_}
+use Prim.Native.Nat.{ℕ, zero, suc, _<_}
 use native.Mathlib.Nat.{mod-eq-of-lt}
 use native.Mathlib.Omega.{arith}
 use lib.Dec.{lit<}
 use lib.Bits.{bitXor}
-use lib.ListN.{length, getD, drop, drop-of-length-le, List·getD-map}
-use lib.Seq.{drop-cons}
-use Rattle.basics.specs.Lists.{zeros, Bytes}
+use lib.ListN.{length, getD, List·getD-map}
+use Rattle.basics.specs.Lists.{zeros, Bytes, entries}
+use Rattle.basics.proofs.Lists.{byte, entries-rest}
 use Rattle.basics.proofs.Numbers.{byteAt, byte-lt, byte-zero, byte-xor}
 use Rattle.field.specs.Field.{times}
 use Rattle.field.specs.EachByte.{timesEach}
@@ -16,21 +16,12 @@ use Rattle.field.proofs.Laws.{times-lt, times-comm}
 use Rattle.field.proofs.EachByte.{each-at}
 use Rattle.division.specs.Division.{plus, scale}
 use Rattle.division.specs.Register.{step, feed}
-use Rattle.division.proofs.Register.{plus-comm, plus-zero-behind, scale-length, feed-length}
+use Rattle.division.proofs.Register.{plus-comm, plus-zero-behind, scale-length}
 use Rattle.reed_solomon.specs.Code.{generator, parity}
-use Rattle.reed_solomon.proofs.Factors.{coefficients, generator-is}
-use Rattle.reed_solomon.proofs.Laws.{generator-length, parity-feed}
+use Rattle.reed_solomon.proofs.Factors.{coefficients, coefficients-are-bytes, generator-is}
+use Rattle.reed_solomon.proofs.Laws.{fed-length, parity-feed}
 
 -- ---- a step, as the code writes it out
-
--- n elements of a list, from place k on
-abbrev pub listFrom : ℕ → ℕ → List ℕ → List ℕ
-listFrom zero k l = []
-listFrom (suc n) k l = getD l k 0 ∷ listFrom n (suc k) l
-
-list-rest : (n k : ℕ) (l : List ℕ) → length l ≡ k + n → listFrom n k l ≡ drop k l
-list-rest zero k l e = let h : length l ≤ k = omega arith in sym (drop-of-length-le l h)
-list-rest (suc n) k l e = ap (λ (t : List ℕ). getD l k 0 ∷ t) (list-rest n (suc k) l (omega arith)) ∙ sym (drop-cons l k 0 (omega arith))
 
 -- the same product at one place, and the same behind it
 pub placed : (above : ℕ) {x y : ℕ} {xs ys : List ℕ} → x ≡ y → xs ≡ ys → bitXor x above ∷ xs ≡ bitXor y above ∷ ys
@@ -38,14 +29,14 @@ placed above = ap₂ (λ (x : ℕ) (xs : List ℕ). bitXor x above ∷ xs)
 
 -- to the products the registers are added, without what left them: nothing moves up into the last place
 pub shifted : (registers : List ℕ) (row : ℕ) → length registers ≡ 16 → (next : List ℕ)
-    → next ≡ plus (scale timesEach (bitXor (getD registers 0 0) row) (tail coefficients)) (listFrom 15 1 registers)
+    → next ≡ plus (scale timesEach (bitXor (getD registers 0 0) row) (tail coefficients)) (entries (byte registers) 1 15)
     → next ≡ step timesEach (tail generator) registers row
 unfolding step
 shifted [] row long next e = absurd (omega arith)
 shifted (x ∷ t) row long next e =
     let products = scale timesEach (bitXor x row) (tail coefficients) in
     let short : length t < length products = omega (arith, scale-length timesEach (bitXor x row) (tail coefficients)) in
-    e ∙ ap (plus products) (list-rest 15 1 (x ∷ t) long)
+    e ∙ ap (plus products) (entries-rest (x ∷ t) 1 15 long)
     ∙ plus-comm products t ∙ sym (plus-zero-behind t products short) ∙ plus-comm (t ++ 0 ∷ []) products
     ∙ ap (λ (g : List ℕ). plus (scale timesEach (bitXor x row) (tail g)) (t ++ 0 ∷ [])) (sym generator-is)
 
@@ -103,39 +94,11 @@ abbrev pub registersOf : List ℕ → List ℕ
 registersOf rows = feed timesEach (tail generator) (zeros 16) rows
 
 pub registers-length : (rows : List ℕ) → length (registersOf rows) ≡ 16
-registers-length rows = feed-length timesEach (tail generator) (zeros 16) rows (sym generator-length) ∙ generator-length
-
-coefficient-bytes : Bytes (tail generator)
-coefficient-bytes =
-    subst (λ (g : List ℕ). Bytes (tail g)) (sym generator-is) (
-      lit< tt,
-      (
-        lit< tt,
-        (
-          lit< tt,
-          (
-            lit< tt,
-            (
-              lit< tt,
-              (
-                lit< tt,
-                (
-                  lit< tt,
-                  (
-                    lit< tt,
-                    (lit< tt, (lit< tt, (lit< tt, (lit< tt, (lit< tt, (lit< tt, (lit< tt, (lit< tt, tt)))))))),
-                  ),
-                ),
-              ),
-            ),
-          ),
-        ),
-      ),
-    )
+registers-length rows = fed-length timesEach rows
 
 pub registers-word : (k : ℕ) → k < 8 → (rows : List ℕ) → wordIn k (registersOf rows) ≡ parity (wordIn k rows)
 registers-word k h rows =
-    word-feed k h (tail generator) (zeros 16) rows coefficient-bytes
+    word-feed k h (tail generator) (zeros 16) rows (subst (λ (g : List ℕ). Bytes (tail g)) (sym generator-is) coefficients-are-bytes)
     ∙ ap (λ (z : List ℕ). feed times (tail generator) z (wordIn k rows)) (word-zeros k 16) ∙ sym (parity-feed (wordIn k rows))
 
 -- a single word

@@ -1,7 +1,7 @@
 use native.Mathlib.Omega.{arith}
 use mathlib.Core.Path.{sym, ap, _∙_}
 use Rattle.basics.specs.Lists.{zeros, entries}
-use Rattle.basics.proofs.Lists.{zeros-length, entries-length}
+use Rattle.basics.proofs.Lists.{zeros-length, bytes-each, entries-length}
 use Rattle.lent.specs.Written.{written}
 use Rattle.lent.specs.Numbers.{bytesOf}
 use Rattle.lent.proofs.Written.{written-whole}
@@ -30,7 +30,7 @@ returns c =
     let message = c .before .before .before .before .before .before .args .message .now in
     let parity = entries (parityByte message) 0 128 in
     c .before .write-numbers .ensures ∙ ap (λ l. written (zeros 128) 0 (bytesOf l)) (fed .ensures)
-    ∙ ap (written (zeros 128) 0) (parity-is message (λ i. omega (arith, known i)))
+    ∙ ap (written (zeros 128) 0) (parity-is message (bytes-each message (λ i. omega (arith, known i))))
     ∙ written-whole (zeros 128) parity (entries-length (parityByte message) 0 128 ∙ sym (zeros-length 128))
 
 pub parity-bytes-spec : {M : Type 1} → statement M

@@ -54,9 +54,8 @@ number-of-requires c κs = search needs
 
 returns : tie.Need-returns
 returns c =
-    let at-number-of = c .number-of in
-    let at-args = c .before .before .before .before .before .before .before .before .before .before .args in
-    (at-number-of .ensures) ∙ number-at (at-args .bytes .now) (at-args .at)
+    let args = c .before .before .before .before .before .before .before .before .before .before .args in
+    c .number-of .ensures ∙ number-at (args .bytes .now) (args .at)
 
 pub number-at-spec : {M : Type 1} → statement M
 number-at-spec =

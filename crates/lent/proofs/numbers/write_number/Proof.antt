@@ -40,9 +40,8 @@ same-length c = search needs
 
 returns : tie.Need-returns
 returns c =
-    let at-write-at = c .before .before .write-at in
-    let at-args = c .before .before .before .before .before .before .args in
-    (at-write-at .ensures) ∙ ap (written (at-args .buffer .now) (at-args .at)) (low-bytes (at-args .number))
+    let args = c .before .before .before .before .before .before .args in
+    c .before .before .write-at .ensures ∙ ap (written (args .buffer .now) (args .at)) (low-bytes (args .number))
 
 pub write-number-spec : {M : Type 1} → statement M
 write-number-spec =

@@ -19,9 +19,8 @@ abbrev μ-loop : tie.MeasureT-loop
 
 loop-holds : tie.Need-loop-holds Inv-loop μ-loop
 loop-holds c =
-    let at-pre = c .before .before .pre in
-    let at-args = c .before .before .args in
-    (search needs, at-pre, refl, numbers-start (at-args .buffer .now) (at-args .numbers .now))
+    let given = c .before .before in
+    (search needs, given .pre, refl, numbers-start (given .args .buffer .now) (given .args .numbers .now))
 
 mul-write-number : tie.Need-mul-write-number Inv-loop μ-loop
 mul-write-number c = search needs
@@ -43,19 +42,25 @@ loop-less c = search needs
 
 loop-again : tie.Need-loop-again Inv-loop μ-loop
 loop-again c =
-    let at-loop = c .before .before .before .before .before .before .loop in
-    let at-write-number = c .before .before .write-number in
-    let at-args = c .before .before .before .before .before .before .before .before .before .args in
-    (search needs, (at-loop .inv .1), search needs, (at-write-number .ensures) ∙ ap (λ l. written l (8 * (at-loop .i)) (lowFirst 8 (getD (at-args .numbers .now) (at-loop .i) 0))) (at-loop .inv .3) ∙ numbers-turn (at-args .buffer .now) (at-args .numbers .now) (at-loop .i) (omega arith) (at-loop .inv .1))
+    let written-one = c .before .before .write-number in
+    let loop = c .before .before .before .before .before .before .loop in
+    let args = c .before .before .before .before .before .before .before .before .before .args in
+    let numbers = args .numbers .now in (
+      search needs,
+      loop .inv .1,
+      search needs,
+      written-one .ensures ∙ ap (λ l. written l (8 * loop .i) (lowFirst 8 (getD numbers (loop .i) 0))) (loop .inv .3)
+          ∙ numbers-turn (args .buffer .now) numbers (loop .i) (omega arith) (loop .inv .1),
+    )
 
 same-length : tie.Need-same-length Inv-loop μ-loop
 same-length c = search needs
 
 returns : tie.Need-returns Inv-loop μ-loop
 returns c =
-    let at-loop = c .before .loop in
-    let at-args = c .before .before .before .before .args in
-    (at-loop .inv .3) ∙ ap (λ l. written (at-args .buffer .now) 0 (bytesOf l)) (take-all (at-loop .i) (at-args .numbers .now) (omega arith))
+    let loop = c .before .loop in
+    let args = c .before .before .before .before .args in
+    loop .inv .3 ∙ ap (λ l. written (args .buffer .now) 0 (bytesOf l)) (take-all (loop .i) (args .numbers .now) (omega arith))
 
 pub write-numbers-spec : {M : Type 1} → statement M
 write-numbers-spec =

@@ -1,6 +1,7 @@
 use borrow.Author.Needs.{needs}
 use mathlib.Core.Path.{ap}
 use mathlib.Core.List.{[], _∷_}
+use Rattle.basics.specs.Lists.{entries}
 use Rattle.division.specs.Division.{plus, scale}
 use Rattle.reed_solomon.proofs.Rows.{placed, shifted}
 use Rattle.reed_solomon.proofs.register.shift.Statement.{statement}
@@ -151,7 +152,7 @@ times-each-requires-16 : tie.Need-times-each-requires-16
 times-each-requires-16 c κs = search needs
 
 returns : tie.Need-returns
-unfolding plus scale
+unfolding plus scale entries
 returns c =
     let c16 = c in
     let c15 = c16 .before in
