@@ -1,5 +1,5 @@
--- What the code does: a field's work on several bytes at once, which stand in one number, the first of them the lowest. Contracts of functions below the
--- calls cite it; whoever reads `Field` need not believe anything here.
+-- What the code does: the field's work on several bytes at once, which stand in one number, the first of them the lowest. Contracts of functions below
+-- the calls cite it; whoever reads `Field` need not believe anything here.
 use Prim.Native.Nat.{ℕ, zero, suc, _+_, _*_, _/_, _%_, _^_}
 use Rattle.field.specs.Field.{times}
 
