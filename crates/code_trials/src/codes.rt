@@ -1,6 +1,6 @@
 // The kinds of record that try the codes. A body is the input, and behind it what the second coder expects; a test
 // comes out as a byte, 1 for true and 0 for false. A result that differs in length differs. Where the code of a word or of a
-// payload is tried, both its forms are, the quick one and the plain one.
+// payload or the scrambler is tried, both its forms are, the quick one and the plain one.
 use outcome::Outcome;
 use vectors::numbers;
 
@@ -93,13 +93,21 @@ pub fn taps(body: &[u8]) -> Outcome {
     outcome::of(&found, &body[4..])
 }
 
-// Taps in four bytes, some bytes, and the same scrambled.
+// Taps in four bytes, some bytes, and the same scrambled. No record is as long as twice the buffer.
 pub fn scrambled(body: &mut [u8]) -> Outcome {
     if body.len() < 4 {
         return Outcome::Malformed;
     }
     let taps = numbers::four_at(body, 0);
-    let end = 4 + (body.len() - 4) / 2;
+    let count = (body.len() - 4) / 2;
+    if 32768 < count {
+        return Outcome::Malformed;
+    }
+    let end = 4 + count;
+    let mut buffer = [0u8; 32768];
+    let plain = &mut buffer[0..count];
+    lent::write_at(plain, 0, &body[4..end]);
+    plain_scrambler::scramble(taps, plain);
     scrambler::scramble(taps, &mut body[4..end]);
-    outcome::of(&body[4..end], &body[end..])
+    of_both(&body[4..end], plain, &body[end..])
 }

@@ -1,12 +1,14 @@
 -- Scrambling as frames use it: it is its own inverse, keeps the length, and makes bytes of bytes.
-use mathlib.Core.Path.{_≡_, refl, ap, ap₂, _∙_}
-use mathlib.Core.List.{List, [], _∷_}
-use Prim.Native.Nat.{ℕ, suc}
+use mathlib.Core.Path.{_≡_, refl, sym, ap, ap₂, _∙_}
+use mathlib.Core.List.{List, [], _∷_, _++_}
+use Prim.Native.Nat.{ℕ, suc, _+_, _*_}
+use native.Mathlib.Omega.{arith}
 use lib.Bits.{bitXor, xor-comm, xor-lt}
 use lib.ListN.{length}
 use Rattle.basics.specs.Lists.{Bytes}
 use Rattle.basics.proofs.Xor.{xor-cancel}
 use Rattle.scrambler.specs.Scrambler.{after, firstStages, key, scrambledFrom, scrambled}
+use Rattle.scrambler.proofs.Stages.{after-add}
 use Rattle.scrambler.proofs.Steps.{key-lt}
 
 pub scrambled-from-twice : (taps stages : ℕ) (bytes : List ℕ) → scrambledFrom taps stages (scrambledFrom taps stages bytes) ≡ bytes
@@ -40,3 +42,15 @@ scrambled-from-bytes taps stages (b ∷ bytes) h =
 pub scrambled-bytes : (taps : ℕ) (bytes : List ℕ) → Bytes bytes → Bytes (scrambled taps bytes)
 unfolding scrambled
 scrambled-bytes taps bytes h = scrambled-from-bytes taps firstStages bytes h
+
+-- bytes behind others are scrambled with the bits that come then
+pub scrambled-append : (taps stages : ℕ) (front rest : List ℕ)
+    → scrambledFrom taps stages (front ++ rest) ≡ scrambledFrom taps stages front ++ scrambledFrom taps (after taps (8 * length front) stages) rest
+unfolding scrambledFrom after
+scrambled-append taps stages [] rest = refl
+scrambled-append taps stages (b ∷ front) rest =
+    let e : 8 + 8 * length front ≡ 8 * suc (length front) = omega arith in
+    ap (λ (l : List ℕ). bitXor b (key taps 8 stages) ∷ l)
+    (scrambled-append taps (after taps 8 stages) front rest
+    ∙ ap (λ (s : ℕ). scrambledFrom taps (after taps 8 stages) front ++ scrambledFrom taps s rest)
+    (sym (after-add taps 8 (8 * length front) stages) ∙ ap (λ (n : ℕ). after taps n stages) e))

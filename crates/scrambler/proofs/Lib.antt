@@ -1,4 +1,9 @@
 pub mod Stages
 pub mod Recurrence
 pub mod Laws
-mod Steps
+pub mod Steps
+mod Square
+mod Places
+mod Follows
+mod Holds
+mod Words

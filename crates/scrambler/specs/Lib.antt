@@ -1,1 +1,2 @@
 pub mod Scrambler
+pub mod Keys

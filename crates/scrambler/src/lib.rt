@@ -1,7 +1,14 @@
-// The scrambler of a frame.
+// The scrambler of a frame. Its bits are defined one by one (specs/Scrambler.antt) and made 64 at a time (levels.rt); crate plain_scrambler makes them one by
+// one, as the definition has them.
+pub mod bits;
+mod levels;
+mod sums;
+
 ghost use mathlib.Core.Path.{_≡_};
-ghost use Prim.Native.Nat.{_<_, _^_};
-ghost use Rattle.scrambler.specs.Scrambler.{tapsAllowed, next, after, key, scrambled};
+ghost use Prim.Native.Nat.{_≤_};
+ghost use lib.ListN.{length};
+ghost use Rattle.scrambler.specs.Scrambler.{tapsAllowed, scrambled};
+ghost use Rattle.scrambler.specs.Keys.{Added};
 
 // Whether a number can be the taps: 25 of them, tap 0 set.
 pub fn are_taps(taps: u32) -> bool
@@ -10,49 +17,34 @@ pub fn are_taps(taps: u32) -> bool
     taps < 0x2000000 && taps % 2 == 1
 }
 
-// The stages one bit further: the new bit is the parity of the count of ones in the stages masked by the taps.
-fn step(taps: u32, stages: u32) -> u32
-    requires { ⌜ stages < 2 ^ 25 ⌝ }
-    ensures { λ r. ⌜ r ≡ next taps stages ⌝ }
-{
-    stages / 2 + (u32::count_ones(stages & taps) % 2) * 0x1000000
-}
-
-// Eight bits of the scrambler, and the stages after them.
-struct Key {
-    byte: u8,
-    stages: u32,
-}
-
-// The next byte of the key: the first bit is its highest.
-fn key_byte(taps: u32, stages: u32) -> Key
-    requires { ⌜ stages < 2 ^ 25 ⌝ }
-    ensures { λ r. ⌜ (r .byte ≡ key taps 8 stages) × (r .stages ≡ after taps 8 stages) ⌝ }
-{
-    let mut byte: u8 = 0;
-    let mut later = stages;
-    let mut remaining: usize = 8;
-    while 0 < remaining {
-        byte = byte * 2 + (later % 2) as u8;
-        later = step(taps, later);
-        remaining -= 1;
-    }
-    Key {
-        byte,
-        stages: later,
-    }
-}
-
 // Adds the scrambler's bits, begun anew, to the bytes. Doing it twice gives the bytes back.
 pub fn scramble(taps: u32, bytes: &mut [u8])
     ensures { λ _. ⌜ now (bytes .exit) ≡ scrambled taps (now (bytes .entry)) ⌝ }
 {
-    let mut stages: u32 = 7;
+    let mut all = [0usize; 25];
+    let count = sums::write_places(taps, &mut all);
+    let places = &all[..count];
+    let mut words = levels::first_words(taps, places);
+    let mut at = 0;
+    while 400 < bytes.len() - at {
+        add_words(&words[..50], &mut bytes[at..at + 400]);
+        levels::extend_by_two(places, &mut words);
+        levels::move_on(&mut words);
+        at += 400;
+    }
+    add_words(&words[..50], &mut bytes[at..]);
+}
+
+// Adds 50 words of the key to at most 400 bytes.
+fn add_words(words: &[u64], bytes: &mut [u8])
+    requires { ⌜ (length (now words) ≡ 50) × (length (now bytes) ≤ 400) ⌝ }
+    ensures { λ _. ⌜ Added (now (words .entry)) (now (bytes .entry)) (now (bytes .exit)) ⌝ }
+{
+    let mut key = [0u8; 400];
+    lent::numbers::write_numbers(&mut key, words);
     let mut i = 0;
     while i < bytes.len() {
-        let key = key_byte(taps, stages);
-        bytes[i] = bytes[i] ^ key.byte;
-        stages = key.stages;
+        bytes[i] = bytes[i] ^ key[i];
         i += 1;
     }
 }

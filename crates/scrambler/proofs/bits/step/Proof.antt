@@ -3,8 +3,8 @@ use Prim.Native.Nat.{ℕ, _+_, _*_, _/_, _^_}
 use Rattle.scrambler.specs.Scrambler.{next}
 use Rattle.scrambler.proofs.Steps.{parity}
 use borrow.Author.Needs.{needs}
-use Rattle.scrambler.proofs.step.Statement.{statement}
-use Rattle.scrambler.proofs.step.Tie as tie
+use Rattle.scrambler.proofs.bits.step.Statement.{statement}
+use Rattle.scrambler.proofs.bits.step.Tie as tie
 
 mul-result : tie.Need-mul-result
 mul-result c = search needs

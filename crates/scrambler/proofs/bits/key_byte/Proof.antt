@@ -5,8 +5,8 @@ use Rattle.scrambler.specs.Scrambler.{key, after}
 use Rattle.scrambler.proofs.Stages.{next-lt}
 use Rattle.scrambler.proofs.Steps.{key-turn, after-turn, key-end, after-end, room}
 use borrow.Author.Needs.{needs}
-use Rattle.scrambler.proofs.key_byte.Statement.{statement}
-use Rattle.scrambler.proofs.key_byte.Tie as tie
+use Rattle.scrambler.proofs.bits.key_byte.Statement.{statement}
+use Rattle.scrambler.proofs.bits.key_byte.Tie as tie
 
 abbrev Inv-loop : tie.InvT-loop
 Inv-loop taps stages byte₀ later₀ remaining₀ byte later remaining =
