@@ -1,29 +1,28 @@
--- A byte at a time: eight steps of the register are one look into the table. The width is suc k, p is a polynomial of that degree, and q bits stand below the
--- register's top byte.
+-- A byte at a time: eight steps of the register are a byte added at its top, and eight doublings; a loop over a message's bytes comes to its check sum. The
+-- width is suc k, p is a polynomial of that degree, and q bits stand below those that are added.
 use mathlib.Core.Path.{_≡_, refl, sym, ap, ap₂, _∙_, subst}
 use mathlib.Core.List.{List, [], _∷_, _++_}
 use Prim.Native.Nat.{ℕ, zero, suc, _+_, _-_, _*_, _/_, _%_, _^_, _≤_, _<_}
-use native.Mathlib.Nat.{suc-inj, mod-lt, mod-one, mod-eq-of-lt, mul-mod-left, pow-suc, zero-mul, mul-one, mul-assoc, mul-comm}
-use native.Mathlib.Nat.{add-suc, suc-add, add-comm, zero-add, div-eq-of-lt, lt-of-lt-of-le, add-sub-cancel}
+use native.Mathlib.Nat.{suc-inj, mod-lt, mod-one, mod-eq-of-lt, pow-suc, zero-mul, mul-assoc, add-suc, suc-add, add-comm, div-eq-of-lt, lt-of-lt-of-le}
 use native.Mathlib.Numerals.{add-one, one-add}
 use native.Mathlib.Omega.{arith}
 use lib.Dec.{lit<}
-use lib.Pow.{pow-pos, pow-mono, mod-pow-add, shl-lt, shr-lt, shl-shr, split, pow-add}
-use lib.Bits.{bitXor, xor-lt, xor-shr, xor-mod, xor-zero-r, xor-shifted}
+use lib.Pow.{pow-pos, pow-mono, mod-pow-add, shl-lt, pow-add}
+use lib.Bits.{bitXor, xor-zero-r, xor-shifted}
 use lib.Seq.{drop-cons}
 use lib.ListN.{length, getD, drop, drop-of-length-le}
 use Rattle.basics.specs.Lists.{zeros}
 use Rattle.basics.proofs.Xor.{xor-assoc, xor-shl}
-use Rattle.basics.proofs.Lists.{zeros-length, entries-at}
+use Rattle.basics.proofs.Lists.{zeros-length}
 use Rattle.field.specs.Field.{twice}
 use Rattle.field.proofs.Double.{twice-xor, twice-lt}
 use Rattle.division.proofs.Register.{check-feed}
 use Rattle.crc.specs.Crc.{bits, number, messageBits, crc, crc16Polynomial, crc-16}
-use Rattle.crc.specs.Register.{bitStep, bitSteps, byteStep, doubled, byteTable}
+use Rattle.crc.specs.Register.{bitStep, bitSteps, byteStep, doubled}
 use Rattle.crc.proofs.Number.{times, Bits, bits-length, bits-are-bits, append-bits, feed-number, bit-step, with-bit-lt, bit-steps-lt}
 
 module _ (k p : ℕ) (degree : p / 2 ^ suc k ≡ 1) where
-  doubled-xor : (j a b : ℕ) → a < 2 ^ suc k → b < 2 ^ suc k → doubled (suc k) p j (bitXor a b) ≡ bitXor (doubled (suc k) p j a) (doubled (suc k) p j b)
+  pub doubled-xor : (j a b : ℕ) → a < 2 ^ suc k → b < 2 ^ suc k → doubled (suc k) p j (bitXor a b) ≡ bitXor (doubled (suc k) p j a) (doubled (suc k) p j b)
   unfolding doubled
   doubled-xor zero a b ha hb = refl
   doubled-xor (suc j) a b ha hb =
@@ -31,21 +30,11 @@ module _ (k p : ℕ) (degree : p / 2 ^ suc k ≡ 1) where
       ∙ doubled-xor j (twice (suc k) p a) (twice (suc k) p b) (twice-lt (suc k) p a degree ha) (twice-lt (suc k) p b degree hb)
 
   -- where nothing leaves at the top, doubling is that of numbers
-  twice-small : (y : ℕ) → y < 2 ^ k → twice (suc k) p y ≡ y * 2
+  pub twice-small : (y : ℕ) → y < 2 ^ k → twice (suc k) p y ≡ y * 2
   unfolding twice
   twice-small y h =
       let l : y * 2 < 2 ^ suc k = subst (λ (x : ℕ). y * 2 < x) (sym (pow-suc 2 k)) (omega arith) in
       ap (λ (t : ℕ). bitXor (y * 2) (t * p)) (div-eq-of-lt l) ∙ ap (bitXor (y * 2)) (zero-mul p) ∙ xor-zero-r (y * 2)
-
-  doubled-small : (j q y : ℕ) → suc k ≡ q + j → y < 2 ^ q → doubled (suc k) p j y ≡ y * 2 ^ j
-  unfolding doubled
-  doubled-small zero q y e h = sym (mul-one y)
-  doubled-small (suc j) q y e h =
-      let e' : k ≡ q + j = suc-inj (e ∙ add-suc q j) in
-      let hy : y < 2 ^ k = lt-of-lt-of-le h (pow-mono (omega arith)) in
-      ap (doubled (suc k) p j) (twice-small y hy)
-      ∙ doubled-small j (suc q) (y * 2) (e ∙ add-suc q j ∙ sym (suc-add q j)) (subst (λ (x : ℕ). y * 2 < x) (sym (pow-suc 2 q)) (omega arith))
-      ∙ mul-assoc y 2 (2 ^ j) ∙ ap (λ (x : ℕ). y * x) (mul-comm 2 (2 ^ j) ∙ sym (pow-suc 2 j))
 
   -- j bits that go in one by one can be added at the top at once
   bits-at-once : (j q r b : ℕ) → suc k ≡ q + j → r < 2 ^ suc k → bitSteps (suc k) p r (bits j b) ≡ doubled (suc k) p j (bitXor r (b % 2 ^ j * 2 ^ q))
@@ -70,42 +59,24 @@ module _ (k p : ℕ) (degree : p / 2 ^ suc k ≡ 1) where
       ∙ ap (doubled (suc k) p j) (sym (twice-xor (suc k) p x y hx hy'))
       ∙ ap (λ (z : ℕ). doubled (suc k) p j (twice (suc k) p z)) (xor-assoc r (c * 2 ^ k) y ∙ ap (bitXor r) sums)
 
-  -- a byte: what the register's top byte with the byte added comes to, and the rest of the register moved up
-  byte-at-once : (q r b : ℕ) → suc k ≡ q + 8 → r < 2 ^ suc k → b < 256
-      → byteStep (suc k) p r b ≡ bitXor (doubled (suc k) p 8 (bitXor (r / 2 ^ q) b * 2 ^ q)) (r % 2 ^ q * 256)
+  -- a byte, in a register with q bits below its top byte
+  pub byte-added : (q r b : ℕ) → suc k ≡ q + 8 → r < 2 ^ suc k → b < 256 → byteStep (suc k) p r b ≡ doubled (suc k) p 8 (bitXor r (b * 2 ^ q))
   unfolding byteStep
-  byte-at-once q r b e h hb =
-      let x = bitXor r (b * 2 ^ q) in
-      let hi : b * 2 ^ q < 2 ^ suc k = subst (λ (n : ℕ). b * 2 ^ q < 2 ^ n) (add-comm 8 q ∙ sym e) (shl-lt 8 q hb) in
-      let hx : x < 2 ^ suc k = xor-lt (suc k) r (b * 2 ^ q) h hi in
-      let lo : x % 2 ^ q < 2 ^ q = mod-lt x (pow-pos q) in
-      let hlo : x % 2 ^ q < 2 ^ suc k = lt-of-lt-of-le lo (pow-mono (omega arith)) in
-      let hhi : x / 2 ^ q * 2 ^ q < 2 ^ suc k = omega (arith, split x q) in
-      bits-at-once 8 q r b e h
-      ∙ ap (λ (z : ℕ). doubled (suc k) p 8 (bitXor r (z * 2 ^ q))) (mod-eq-of-lt hb)
-      ∙ ap (doubled (suc k) p 8) (sym (xor-shifted (x / 2 ^ q) q (x % 2 ^ q) lo ∙ split x q))
-      ∙ doubled-xor 8 (x / 2 ^ q * 2 ^ q) (x % 2 ^ q) hhi hlo
-      ∙ ap₂ bitXor
-      (ap (λ (z : ℕ). doubled (suc k) p 8 (z * 2 ^ q)) (xor-shr r (b * 2 ^ q) q ∙ ap (bitXor (r / 2 ^ q)) (shl-shr b q)))
-      (doubled-small 8 q (x % 2 ^ q) e lo
-      ∙ ap (λ (z : ℕ). z * 256) (xor-mod r (b * 2 ^ q) q ∙ ap (bitXor (r % 2 ^ q)) (mul-mod-left b (2 ^ q)) ∙ xor-zero-r (r % 2 ^ q)))
+  byte-added q r b e h hb = bits-at-once 8 q r b e h ∙ ap (λ (x : ℕ). doubled (suc k) p 8 (bitXor r (x * 2 ^ q))) (mod-eq-of-lt hb)
 
--- ---- the code's step
+-- ---- a loop over the bits of a byte: a turn, from the register r to s, and the end
 
-pub place-lt : (q r b : ℕ) → r < 2 ^ (8 + q) → b < 256 → bitXor (r / 2 ^ q) b < 256
-place-lt q r b h hb = xor-lt 8 (r / 2 ^ q) b (shr-lt 8 q h) hb
+pub bits-turn : (n p j r s : ℕ) → j < 8 → s ≡ twice n p r → doubled n p (8 - (j + 1)) s ≡ doubled n p (8 - j) r
+unfolding doubled
+bits-turn n p j r s h e =
+    let k : 8 - j ≡ suc (8 - (j + 1)) = omega arith in
+    ap (doubled n p (8 - (j + 1))) e ∙ sym (ap (λ (i : ℕ). doubled n p i r) k)
 
-pub by-table : (k p q : ℕ) → p / 2 ^ suc k ≡ 1 → suc k ≡ q + 8 → (table : List ℕ) → table ≡ byteTable (suc k) p
-    → (r b : ℕ) → r < 2 ^ suc k → b < 256 → bitXor (getD table (bitXor (r / 2 ^ q) b) 0) (r % 2 ^ q * 256) ≡ byteStep (suc k) p r b
-unfolding byteTable
-by-table k p q degree e table rule r b h hb =
-    let place = bitXor (r / 2 ^ q) b in
-    let hplace : place < 256 = place-lt q r b (subst (λ (n : ℕ). r < 2 ^ n) (e ∙ add-comm q 8) h) hb in
-    let entry : ℕ → ℕ = λ byte. doubled (suc k) p 8 (byte * 2 ^ (suc k - 8)) in
-    ap (λ (x : ℕ). bitXor x (r % 2 ^ q * 256))
-    (ap (λ (t : List ℕ). getD t place 0) rule ∙ entries-at entry 0 256 place hplace ∙ ap entry (zero-add place)
-    ∙ ap (λ (n : ℕ). doubled (suc k) p 8 (place * 2 ^ n)) (ap (λ (n : ℕ). n - 8) e ∙ add-sub-cancel q 8))
-    ∙ sym (byte-at-once k p degree q r b e h hb)
+pub bits-end : (n p j r : ℕ) → 8 ≤ j → doubled n p (8 - j) r ≡ r
+unfolding doubled
+bits-end n p j r h =
+    let k : 8 - j ≡ 0 = omega arith in
+    ap (λ (i : ℕ). doubled n p i r) k
 
 -- ---- a message
 
@@ -114,7 +85,7 @@ unfoldable pub byteSteps : ℕ → ℕ → ℕ → List ℕ → ℕ
 byteSteps n p r [] = r
 byteSteps n p r (b ∷ bs) = byteSteps n p (byteStep n p r b) bs
 
-bit-steps-append : (n p r : ℕ) (xs ys : List ℕ) → bitSteps n p r (xs ++ ys) ≡ bitSteps n p (bitSteps n p r xs) ys
+pub bit-steps-append : (n p r : ℕ) (xs ys : List ℕ) → bitSteps n p r (xs ++ ys) ≡ bitSteps n p (bitSteps n p r xs) ys
 unfolding bitSteps
 bit-steps-append n p r [] ys = refl
 bit-steps-append n p r (x ∷ xs) ys = bit-steps-append n p (bitStep n p r x) xs ys
@@ -129,7 +100,7 @@ unfolding messageBits
 message-bits [] = tt
 message-bits (b ∷ m) = append-bits (bits 8 b) (messageBits m) (bits-are-bits 8 b) (message-bits m)
 
-zeros-bits : (n : ℕ) → Bits (zeros n)
+pub zeros-bits : (n : ℕ) → Bits (zeros n)
 zeros-bits zero = tt
 zeros-bits (suc n) = (lit< tt, zeros-bits n)
 

@@ -23,7 +23,7 @@ bits-xor zero a b = refl
 bits-xor (suc n) a b =
     ap₂ (λ (h : ℕ) (t : List ℕ). h ∷ t) (ap (λ (x : ℕ). x % 2) (xor-shr a b n) ∙ xor-mod (a / 2 ^ n) (b / 2 ^ n) 1) (bits-xor n a b)
 
-message-length : (m : List ℕ) → length (messageBits m) ≡ 8 * length m
+pub message-length : (m : List ℕ) → length (messageBits m) ≡ 8 * length m
 unfolding messageBits
 message-length [] = refl
 message-length (b ∷ m) = omega (arith, length-append (bits 8 b) (messageBits m), bits-length 8 b, message-length m)
@@ -48,7 +48,7 @@ module _ (k p : ℕ) (degree : p / 2 ^ suc k ≡ 1) where
       ∙ twice-xor (suc k) p x y (with-bit-lt k r b hr hb) (with-bit-lt k s c hs hc)
       ∙ sym (ap₂ bitXor (bit-step k p r b) (bit-step k p s c))
 
-  bit-steps-xor : (bs cs : List ℕ) (r s : ℕ) → length bs ≡ length cs → Bits bs → Bits cs → r < 2 ^ suc k → s < 2 ^ suc k
+  pub bit-steps-xor : (bs cs : List ℕ) (r s : ℕ) → length bs ≡ length cs → Bits bs → Bits cs → r < 2 ^ suc k → s < 2 ^ suc k
       → bitSteps (suc k) p (bitXor r s) (plus bs cs) ≡ bitXor (bitSteps (suc k) p r bs) (bitSteps (suc k) p s cs)
   unfolding bitSteps plus
   bit-steps-xor [] [] r s e hb hc hr hs = refl

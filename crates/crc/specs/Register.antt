@@ -1,11 +1,12 @@
--- What the code does: long division over bits by a register that is a number of n bits, a byte at a time. The contracts of the private functions cite
--- these words; `proofs/` shows that they come to `crc`, so whoever reads `crc_16` and `crc_32` need not believe anything here.
+-- What the code does: long division over bits by a register that is a number of n bits, a byte at a time; and what eight bytes add to a check sum.
+-- The contracts of the private functions cite these words; `proofs/` shows that they come to `crc`, so whoever reads `crc_16` and `crc_32` need not believe
+-- anything here.
 use mathlib.Core.List.{List, [], _∷_}
-use Prim.Native.Nat.{ℕ, zero, suc, _*_, _-_, _^_}
+use Prim.Native.Nat.{ℕ, zero, suc, _+_, _*_, _-_, _^_}
 use lib.Bits.{bitXor}
-use Rattle.basics.specs.Lists.{entries}
+use Rattle.basics.specs.Numbers.{lowFirst}
 use Rattle.field.specs.Field.{twice}
-use Rattle.crc.specs.Crc.{bits}
+use Rattle.crc.specs.Crc.{bits, crc32Polynomial, crc-32}
 
 -- a bit is added at the top of the register, and the whole is doubled modulo the polynomial
 unfoldable pub bitStep : ℕ → ℕ → ℕ → ℕ → ℕ
@@ -25,6 +26,10 @@ unfoldable pub doubled : ℕ → ℕ → ℕ → ℕ → ℕ
 doubled n polynomial zero register = register
 doubled n polynomial (suc k) register = doubled n polynomial k (twice n polynomial register)
 
--- the table of the 256 bytes: each byte at the top of a register of zeros, doubled eight times
-unfoldable pub byteTable : ℕ → ℕ → List ℕ
-byteTable n polynomial = entries (λ byte. doubled n polynomial 8 (byte * 2 ^ (n - 8))) 0 256
+-- a register of the CRC-32 times x^j
+abbrev pub later : ℕ → ℕ → ℕ
+later j register = doubled 32 crc32Polynomial j register
+
+-- the CRC-32 of a message of n bytes, all 0 but the eight of this number, from index at on
+abbrev pub numberSum : ℕ → ℕ → ℕ → ℕ
+numberSum n at number = later (8 * (n - (at + 8))) (crc-32 (lowFirst 8 number))

@@ -38,7 +38,7 @@ pub fn number_at(bytes: &[u8], at: usize) -> u64
 }
 
 // Writes a number's eight bytes from index at on.
-fn write_number(buffer: &mut [u8], at: usize, number: u64)
+pub fn write_number(buffer: &mut [u8], at: usize, number: u64)
     requires { ⌜ at + 8 ≤ length (now buffer) ⌝ }
     ensures { λ _. ⌜ now (buffer .exit) ≡ written (now (buffer .entry)) at (lowFirst 8 number) ⌝ }
 {
