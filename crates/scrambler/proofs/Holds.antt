@@ -48,7 +48,8 @@ pub extending-start : {places numbers : List ℕ} → length numbers ≡ 100 →
 extending-start long = record { from = omega arith; long = long; so-far = record { more = λ v f h. h } }
 
 module _ {places before numbers : List ℕ} {i : ℕ} (s : Extending places before i numbers) where
-  pub extending-turn : {x : ℕ} → AllBelow 25 places → i < 50 → x ≡ sumAt places (λ k. getD numbers (i - 25 + k) 0) → Extending places before (i + 1) (set numbers i x)
+  pub extending-turn : {x : ℕ} → AllBelow 25 places → i < 50 → x ≡ sumAt places (λ k. getD numbers (i - 25 + k) 0)
+      → Extending places before (i + 1) (set numbers i x)
   extending-turn {x} b h e = record {
     from = omega (arith, s .from);
     long = length-set numbers i x ∙ s .long;
@@ -113,7 +114,8 @@ pub record Replacing (v : ℕ → ℕ) (before : List ℕ) (i : ℕ) (numbers : 
 pub replacing-start : {v : ℕ → ℕ} {numbers : List ℕ} → length numbers ≡ 100 → Replacing v numbers 0 numbers
 replacing-start long = record { long = long; new = holds-none; old = λ j h. refl }
 
-pub replacing-turn : {v : ℕ → ℕ} {before numbers : List ℕ} {i x : ℕ} → Replacing v before i numbers → i < 100 → x ≡ v i → Replacing v before (i + 1) (set numbers i x)
+pub replacing-turn : {v : ℕ → ℕ} {before numbers : List ℕ} {i x : ℕ} → Replacing v before i numbers → i < 100 → x ≡ v i
+    → Replacing v before (i + 1) (set numbers i x)
 replacing-turn {v} {before} {numbers} {i} {x} s h e = record {
   long = length-set numbers i x ∙ s .long;
   new = holds-more (s .new) (omega (arith, s .long)) e;
@@ -139,20 +141,22 @@ module _ (taps : ℕ) where
   pub level-one : {l : List ℕ} → Holds (keyByte taps) 25 l → Holds (level taps 1) 25 l
   level-one h = holds-same byte-number h
 
-  module _ {places : List ℕ} (set : places ≡ placesFrom 25 0 taps) where
+  module _ {places : List ℕ} (places-are : places ≡ placesFrom 25 0 taps) where
     pub all-below : AllBelow 25 places
-    all-below = subst (AllBelow 25) (sym set) (places-below 25 0 taps)
+    all-below = subst (AllBelow 25) (sym places-are) (places-below 25 0 taps)
 
-    pub level-extends : (m : ℕ) {before after : List ℕ} → Extends places 50 before after → Holds (level taps (2 ^ m)) 25 before → Holds (level taps (2 ^ m)) 50 after
+    pub level-extends : (m : ℕ) {before after : List ℕ} → Extends places 50 before after
+        → Holds (level taps (2 ^ m)) 25 before → Holds (level taps (2 ^ m)) 50 after
     level-extends m x h =
-        x .more (level taps (2 ^ m)) (subst (λ (p : List ℕ). FollowsAt p (level taps (2 ^ m))) (sym set) (follows-at taps (level taps (2 ^ m)) (level-follows taps m))) h
+        let v = level taps (2 ^ m) in
+        x .more v (subst (λ (p : List ℕ). FollowsAt p v) (sym places-are) (follows-at taps v (level-follows taps m))) h
 
     -- the next 50 words
     pub words-next : (at : ℕ) {before more after : List ℕ} → ExtendsByTwo places 100 before more → Moved more after
         → Holds (wordsFrom taps at) 50 before → Holds (wordsFrom taps (at + 400)) 50 after
     words-next at x m h =
-        let all : Holds (wordsFrom taps at) 100 _ =
-        x .more (wordsFrom taps at) (subst (λ (p : List ℕ). FollowsByTwo p (wordsFrom taps at)) (sym set) (follows-by-two taps (wordsFrom taps at) (words-squared taps at))) h in
+        let v = wordsFrom taps at in
+        let all : Holds v 100 _ = x .more v (subst (λ (p : List ℕ). FollowsByTwo p v) (sym places-are) (follows-by-two taps v (words-squared taps at))) h in
         record {
           at = λ i hi.
               let e : at + 8 * (50 + i) ≡ at + 400 + 8 * i = omega arith in

@@ -1,13 +1,13 @@
 -- The places of the taps that are set: a sum over them is the recurrence's; the code's loops.
 use mathlib.Core.Path.{_≡_, refl, sym, ap, ap₂, _∙_, subst}
 use mathlib.Core.List.{List, [], _∷_, _++_, append-assoc, append-nil}
-use Prim.Native.Nat.{ℕ, zero, suc, _+_, _-_, _*_, _/_, _%_, _^_, _≤_, _<_}
+use Prim.Native.Nat.{ℕ, zero, suc, _+_, _-_, _*_, _/_, _%_, _≤_, _<_}
 use native.Mathlib.Nat.{not-suc-le-zero, le-of-suc-le-suc, mod-lt, add-zero, zero-add, add-suc, suc-add, zero-mul, one-mul}
 use native.Mathlib.Numerals.{add-one}
 use native.Mathlib.Omega.{arith}
 use lib.Dec.{lit<}
 use lib.Bits.{bitXor, xor-zero-r}
-use lib.ListN.{length, getD, take, drop, set, drop-of-length-le}
+use lib.ListN.{length, getD, take, drop, set, length-set, drop-of-length-le}
 use lib.Seq.{drop-cons, take-suc-set, take-set-le}
 use Rattle.basics.proofs.Xor.{bit-cases, xor-assoc}
 use Rattle.scrambler.specs.Scrambler.{digit}
@@ -45,21 +45,35 @@ place-turn l p count i u h =
     (ap (λ (q : List ℕ). q ++ p) (ap (λ (n : ℕ). take n (set l count i)) (add-one count) ∙ take-suc-set l count i h) ∙ append-assoc (take count l) (i ∷ []) p)
     u
 
-pub places-turn : (l : List ℕ) (count i rest : ℕ) → count < length l → i < 25
-    → take (count + rest % 2) (set l count i) ++ placesFrom (25 - (i + 1)) (i + 1) (rest / 2) ≡ take count l ++ placesFrom (25 - i) i rest
-unfolding placesFrom
-places-turn l count i rest h hi =
-    let n = 25 - (i + 1) in
-    let e : 25 - i ≡ suc n = omega arith in
-    place-turn l (placesFrom n (i + 1) (rest / 2)) count i (rest % 2) h (mod-lt rest (lit< tt))
-    ∙ ap (λ (j : ℕ). take count l ++ withPlace (rest % 2) i (placesFrom n j (rest / 2))) (add-one i)
-    ∙ ap (λ (m : ℕ). take count l ++ placesFrom m i rest) (sym e)
+-- those of i taps are written, and `rest` has the taps that remain
+pub record Listed (taps : ℕ) (places : List ℕ) (count i rest : ℕ) : Type 0 where
+  pub few : count ≤ i
+  pub long : length places ≡ 25
+  pub so-far : take count places ++ placesFrom (25 - i) i rest ≡ placesFrom 25 0 taps
 
-pub places-end : (l : List ℕ) (count i rest : ℕ) → 25 ≤ i → take count l ++ placesFrom (25 - i) i rest ≡ take count l
-unfolding placesFrom
-places-end l count i rest h =
-    let e : 25 - i ≡ 0 = omega arith in
-    ap (λ (m : ℕ). take count l ++ placesFrom m i rest) e ∙ append-nil (take count l)
+pub listed-start : {taps : ℕ} {places : List ℕ} → length places ≡ 25 → Listed taps places 0 0 taps
+listed-start long = record { few = omega arith; long = long; so-far = refl }
+
+module _ {taps count i rest : ℕ} {places : List ℕ} (s : Listed taps places count i rest) where
+  pub listed-turn : i < 25 → Listed taps (set places count i) (count + rest % 2) (i + 1) (rest / 2)
+  unfolding placesFrom
+  listed-turn h =
+      let n = 25 - (i + 1) in
+      let e : 25 - i ≡ suc n = omega arith in
+      record {
+        few = omega (arith, s .few);
+        long = length-set places count i ∙ s .long;
+        so-far = place-turn places (placesFrom n (i + 1) (rest / 2)) count i (rest % 2) (omega (arith, s .few, s .long)) (mod-lt rest (lit< tt))
+            ∙ ap (λ (j : ℕ). take count places ++ withPlace (rest % 2) i (placesFrom n j (rest / 2))) (add-one i)
+            ∙ ap (λ (m : ℕ). take count places ++ placesFrom m i rest) (sym e)
+            ∙ s .so-far;
+      }
+
+  pub listed-end : 25 ≤ i → take count places ≡ placesFrom 25 0 taps
+  unfolding placesFrom
+  listed-end h =
+      let e : 25 - i ≡ 0 = omega arith in
+      sym (ap (λ (m : ℕ). take count places ++ placesFrom m i rest) e ∙ append-nil (take count places)) ∙ s .so-far
 
 -- ---- a loop that adds what stands at them: m places are done
 

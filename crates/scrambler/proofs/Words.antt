@@ -1,6 +1,6 @@
 -- Words of the key are added to bytes: in one stretch, and stretch after stretch.
 use mathlib.Core.Path.{_≡_, refl, sym, ap, ap₂, _∙_}
-use mathlib.Core.List.{List, [], _∷_, _++_, append-assoc}
+use mathlib.Core.List.{List, _++_, append-assoc}
 use Prim.Native.Nat.{ℕ, zero, suc, _+_, _*_, _/_, _%_, _^_, _≤_, _<_}
 use native.Mathlib.Nat.{not-suc-le-zero, le-of-suc-le-suc, mod-lt, add-zero, zero-add, add-suc, suc-add}
 use native.Mathlib.Omega.{arith}
@@ -147,19 +147,20 @@ scrambling-start {taps} set long h = record {
 }
 
 module _ {taps at : ℕ} {places before bytes words : List ℕ} (s : Scrambling taps places before at bytes words) where
-  pub scrambling-turn : (k : ℕ) {sum more next : List ℕ} → k ≡ 400 → at + k ≤ length bytes → Added (take 50 words) (midOf at k bytes) sum
-      → length next ≡ 100 → ExtendsByTwo places 100 words more → Moved more next
-      → Scrambling taps places before (at + 400) (putMid at k bytes sum) next
+  pub scrambling-turn : (k : ℕ) {sum more later : List ℕ} → k ≡ 400 → at + k ≤ length bytes → Added (take 50 words) (midOf at k bytes) sum
+      → length later ≡ 100 → ExtendsByTwo places 100 words more → Moved more later
+      → Scrambling taps places before (at + 400) (putMid at k bytes sum) later
   scrambling-turn k {sum} e room added long x m =
       let there = holds-front 50 (s .key) in
-      let all : length (putMid at k bytes sum) ≡ length bytes = same-len-mid at k bytes sum (added-length taps at there added) in
+      let next = putMid at k bytes sum in
+      let all : length next ≡ length bytes = same-len-mid at k bytes sum (added-length taps at there added) in
       record {
         places-are = s .places-are;
         inside = omega arith;
         same = all ∙ s .same;
         long = long;
         key = words-next taps (s .places-are) at x m (s .key);
-        so-far = ap (λ (n : ℕ). take n (putMid at k bytes sum) ++ scrambledFrom taps (stagesAt taps n) (drop n (putMid at k bytes sum))) (ap (λ (n : ℕ). at + n) (sym e))
+        so-far = ap (λ (n : ℕ). take (at + n) next ++ scrambledFrom taps (stagesAt taps (at + n)) (drop (at + n) next)) (sym e)
             ∙ stretch taps at k bytes (take 50 words) sum room there added ∙ s .so-far;
       }
 

@@ -1,3 +1,4 @@
+-- Byte by byte: what stands before index i is scrambled, and the rest will be from the stages at hand.
 use mathlib.Core.Path.{_≡_, refl, sym, ap, _∙_, subst}
 use mathlib.Core.List.{_++_}
 use Prim.Native.Nat.{ℕ, _-_, _^_, _<_, _≤_}

@@ -63,8 +63,10 @@ part-add-words-end c = search needs
 
 add-words-requires : tie.Need-add-words-requires Inv-loop μ-loop
 add-words-requires c κs =
-    let loop = c .before .before .before .loop in
-    (length-take-le 50 (loop .words) (omega (arith, loop .inv .long)), omega (arith, stretch-length (loop .at) (loop .at + 400 - loop .at) (loop .bytes) (omega arith)))
+    let loop = c .before .before .before .loop in (
+      length-take-le 50 (loop .words) (omega (arith, loop .inv .long)),
+      omega (arith, stretch-length (loop .at) (loop .at + 400 - loop .at) (loop .bytes) (omega arith)),
+    )
 
 slice-aggregate-extend-by-two : tie.Need-slice-aggregate-extend-by-two Inv-loop μ-loop
 slice-aggregate-extend-by-two c = search needs
@@ -92,7 +94,8 @@ loop-again c =
     let extended = moved .before .before .before in
     let added = extended .before .before .before .before in
     let loop = added .before .before .before .before .loop in
-    scrambling-turn (loop .inv) (loop .at + 400 - loop .at) (omega arith) (omega arith) (added .add-words .ensures) (omega arith) (extended .extend-by-two .ensures) (moved .move-on .ensures)
+    scrambling-turn (loop .inv) (loop .at + 400 - loop .at) (omega arith) (omega arith)
+    (added .add-words .ensures) (omega arith) (extended .extend-by-two .ensures) (moved .move-on .ensures)
 
 array-share-prefix-words-2 : tie.Need-array-share-prefix-words-2 Inv-loop μ-loop
 array-share-prefix-words-2 c = search needs
@@ -113,8 +116,10 @@ part-add-words-end-2 c = search needs
 
 add-words-requires-2 : tie.Need-add-words-requires-2 Inv-loop μ-loop
 add-words-requires-2 c κs =
-    let loop = c .before .before .before .loop in
-    (length-take-le 50 (loop .words) (omega (arith, loop .inv .long)), omega (arith, stretch-length (loop .at) (length (loop .bytes) - loop .at) (loop .bytes) (omega arith)))
+    let loop = c .before .before .before .loop in (
+      length-take-le 50 (loop .words) (omega (arith, loop .inv .long)),
+      omega (arith, stretch-length (loop .at) (length (loop .bytes) - loop .at) (loop .bytes) (omega arith)),
+    )
 
 same-length : tie.Need-same-length Inv-loop μ-loop
 same-length c = search needs

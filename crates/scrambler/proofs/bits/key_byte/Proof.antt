@@ -1,3 +1,4 @@
+-- Bit by bit: the byte so far and the bits that remain are the key from the stages given.
 use mathlib.Core.Path.{_≡_, sym, ap, _∙_, subst}
 use Prim.Native.Nat.{ℕ, _+_, _-_, _*_, _%_, _^_, _<_, _≤_}
 use native.Mathlib.Omega.{arith}

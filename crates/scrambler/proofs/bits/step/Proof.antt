@@ -1,3 +1,4 @@
+-- The code is the definition, with the sum of digits as a count of ones (`parity`).
 use mathlib.Core.Path.{ap}
 use Prim.Native.Nat.{ℕ, _+_, _*_, _/_, _^_}
 use Rattle.scrambler.specs.Scrambler.{next}
