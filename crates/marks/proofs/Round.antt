@@ -1,18 +1,22 @@
 -- The walk of the marks as the code goes it, round the ring: the laws of Walk.antt for the used bytes.
-use mathlib.Core.Path.{_≡_, sym, ap, _∙_}
+use mathlib.Core.Path.{_≡_, sym, ap, ap₂, _∙_}
 use mathlib.Core.Bool.{Bool, true, false, _&&_}
-use mathlib.Core.List.{List}
+use mathlib.Core.Logic.{⊎-elim}
+use mathlib.Core.List.{List, _++_}
 use Prim.Native.Nat.{ℕ, _+_, _-_, _≤_, _<_}
 use native.Mathlib.Omega.{arith}
 use lib.Dec.{leb, eqb}
-use lib.ListN.{length, drop}
+use lib.ListN.{length, take, drop, length-drop}
+use lib.Seq.{length-take-le}
+use borrow.Author.Tests.{lt-ltb, le-ltb}
+use Rattle.basics.proofs.Tests.{lt-or-ge}
 use Rattle.link.specs.Store.{markAt, isWhole}
-use Rattle.link.proofs.Store.{markFrom, isLengthFrom, wholeFrom, whole-end}
+use Rattle.link.proofs.Store.{markFrom, isLengthFrom, wholeFrom}
 use Rattle.ring.specs.Ring.{roundFrom}
 use Rattle.marks.specs.Queue.{usedIn}
+use Rattle.marks.specs.Walk.{overEnd, leadsToEnd, LeadsOn}
 use Rattle.marks.proofs.Walk as walk
-use Rattle.marks.proofs.Walk.{Sized, sized}
-use Rattle.marks.proofs.Used.{used-length, used-mark}
+use Rattle.marks.proofs.Used.{used-length, used-mark, used-near, used-far}
 
 -- what `is_length` tests
 abbrev pub lengthTest : ℕ → ℕ → ℕ → ℕ → Bool
@@ -44,42 +48,79 @@ module _ (queue : List ℕ) (start used : ℕ) (u : used ≤ length queue) where
       pub begun-bad : test ≡ false → false ≡ isWhole bytes
       begun-bad f = sym (walk.begun-bad bytes mark is-mark g (tested 0 (mark - 32768) 8999 t f))
 
+      pub begun-fits : test ≡ true → 2 + (mark - 32768) ≤ used
+      begun-fits f = omega (arith, long, walk.sized bytes 0 (mark - 32768) 8999 (tested 0 (mark - 32768) 8999 t f) .room)
+
       pub begun-good : test ≡ true → wholeFrom bytes (2 + (mark - 32768)) ≡ isWhole bytes
       begun-good f = sym (walk.begun-good bytes mark is-mark g (tested 0 (mark - 32768) 8999 t f))
 
--- ---- mark by mark: the loop's invariant, and its turns
+-- ---- stretch by stretch, from an index on
 
-pub record Walked (queue : List ℕ) (start used behind at : ℕ) : Type 0 where
-  pub inside : used ≤ length queue
-  pub so-far : wholeFrom (usedIn queue start used) at ≡ wholeFrom (usedIn queue start used) behind
+module _ (queue : List ℕ) (start used : ℕ) (size : length queue ≡ 32768) (s : start < 32768) (u : used ≤ 32768) where
+  abbrev waiting : List ℕ
+  waiting = usedIn queue start used
 
-module _ {queue : List ℕ} {start used behind at : ℕ} (w : Walked queue start used behind at) where
-  abbrev walked : List ℕ
-  walked = usedIn queue start used
+  used-size : length waiting ≡ used
+  used-size = used-length queue start used (omega arith)
 
-  size : length walked ≡ used
-  size = long queue start used (w .inside)
+  -- the part up to the buffer's end
+  abbrev front : List ℕ
+  front = take (length queue - start) (drop start queue)
 
-  pub ends : used ≤ at → true ≡ wholeFrom walked behind
-  ends l = sym (whole-end walked at (omega (arith, size))) ∙ w .so-far
+  front-size : length front ≡ 32768 - start
+  front-size = length-take-le (length queue - start) (drop start queue) (rw length-drop (omega arith)) ∙ omega arith
 
-  pub runs-out : at < used → used - at < 2 → false ≡ wholeFrom walked behind
-  runs-out l s = sym (walk.runs-out walked at (omega (arith, size)) (omega (arith, size))) ∙ w .so-far
+  -- all stand before the buffer's end
+  pub one-stretch : {behind at : ℕ} → used ≤ 32768 - start → behind ≤ used
+      → LeadsOn (take (start + used - start) (drop start queue)) behind at → length (take (start + used - start) (drop start queue)) ≤ at + 1
+      → eqb at used ≡ wholeFrom waiting behind
+  one-stretch {behind} {at} n b on h =
+      let all = used-near queue start used (omega arith) in
+      let size-near : length (take (start + used - start) (drop start queue)) ≡ used = ap length all ∙ used-size in
+      ap (eqb at) (sym size-near)
+      ∙ walk.last on (omega arith) h
+      ∙ ap (λ (bytes : List ℕ). leadsToEnd bytes behind) all
+      ∙ walk.leads waiting behind (omega (arith, used-size))
 
-  module _ {n : ℕ} {test : Bool} (r : at + 2 ≤ used) (e : n ≡ markAt (drop at (roundFrom start queue))) (t : test ≡ lengthTest used at n 9000) where
-    is-length : n ≡ markFrom walked at
-    is-length = e ∙ used-mark queue start used (w .inside) at r
+  -- the end parts a mark, or is passed
+  module _ (at : ℕ) (h : length front ≤ at + 1) where
+    abbrev mark : ℕ
+    mark = markAt (drop at (roundFrom start queue))
 
-    judged : {given : Bool} → test ≡ given → isLengthFrom 9000 n walked at ≡ given
-    judged = tested queue start used (w .inside) at n 9000 t
+    pub past-end : 32768 - start ≤ overEnd queue start at
+    past-end = ⊎-elim parted passed (lt-or-ge at (32768 - start))
+      where
+        parted : at < 32768 - start → 32768 - start ≤ overEnd queue start at
+        parted l = rw (lt-ltb at (32768 - start) l) (omega (arith, front-size, walk.further at mark 65536 (omega arith)))
 
-    pub bad : test ≡ false → false ≡ wholeFrom walked behind
-    bad f = sym (walk.bad walked at (omega (arith, size)) n is-length (judged f)) ∙ w .so-far
+        passed : 32768 - start ≤ at → 32768 - start ≤ overEnd queue start at
+        passed l = rw (le-ltb at (32768 - start) l) l
 
-    pub fits : test ≡ true → Sized 9000 n at used
-    fits f =
-        let s = sized walked at n 9000 (judged f) in
-        record { low = s .low; high = s .high; room = omega (arith, size, s .room) }
+    over : 32768 - start < used → leadsToEnd waiting (overEnd queue start at) ≡ leadsToEnd waiting at
+    over f = ⊎-elim parted passed (lt-or-ge at (32768 - start))
+      where
+        parted : at < 32768 - start → leadsToEnd waiting (overEnd queue start at) ≡ leadsToEnd waiting at
+        parted l =
+            let here = used-mark queue start used (omega arith) at (omega arith) in
+            rw (lt-ltb at (32768 - start) l) (walk.leads-on at mark 65536 waiting (omega (arith, used-size)) (omega (arith, used-size)) here)
 
-    pub goes-on : test ≡ true → Walked queue start used behind (at + 2 + n)
-    goes-on f = record { inside = w .inside; so-far = sym (walk.goes-on walked at (omega (arith, size)) n is-length (judged f)) ∙ w .so-far }
+        passed : 32768 - start ≤ at → leadsToEnd waiting (overEnd queue start at) ≡ leadsToEnd waiting at
+        passed l = rw (le-ltb at (32768 - start) l)
+
+  pub two-stretches : {behind at from reached : ℕ} → 32768 - start < used → behind ≤ used → LeadsOn front behind at → length front ≤ at + 1
+      → from ≡ overEnd queue start at
+      → LeadsOn (take (used - (32768 - start)) queue) (from - (32768 - start)) reached → length (take (used - (32768 - start)) queue) ≤ reached + 1
+      → eqb reached (used - (32768 - start)) ≡ wholeFrom waiting behind
+  two-stretches {behind} {at} {from} {reached} f b on h e rest-on rest-h =
+      let near = 32768 - start in
+      let rest = take (used - near) queue in
+      let rest-size : length rest ≡ used - near = length-take-le (used - near) queue (omega arith) in
+      let all : front ++ rest ≡ waiting = used-far queue start used near (omega arith) (omega arith) (omega arith) in
+      let place : length front + (from - near) ≡ overEnd queue start at = omega (arith, front-size, past-end at h) in
+      ap (eqb reached) (sym rest-size)
+      ∙ walk.last rest-on (omega arith) rest-h
+      ∙ walk.behind-stretch front rest (from - near)
+      ∙ ap₂ leadsToEnd all place
+      ∙ over at h f
+      ∙ rw all at (on .alike rest (omega (arith, front-size)))
+      ∙ walk.leads waiting behind (omega (arith, used-size))

@@ -1,12 +1,12 @@
 -- The used bytes of a ring: how many they are, where each and where a mark stands, and what a whole ring is.
 use mathlib.Core.Path.{_≡_, sym, ap, ap₂, _∙_}
 use mathlib.Core.Bool.{true, _&&_}
-use mathlib.Core.List.{List}
+use mathlib.Core.List.{List, _++_}
 use Prim.Native.Nat.{ℕ, _+_, _-_, _*_, _%_, _≤_, _<_}
 use native.Mathlib.Omega.{arith}
 use lib.Dec.{ltb, leb}
-use lib.ListN.{length, getD, drop}
-use lib.Seq.{length-take-le, getD-take}
+use lib.ListN.{length, getD, take, drop, length-drop}
+use lib.Seq.{length-take-le, getD-take, take-all, take-append-le, take-append-add, take-take}
 use borrow.Author.Tests.{ltb-true, leb-true}
 use Rattle.basics.proofs.Tests.{left-true, right-true}
 use Rattle.link.specs.Store.{markAt, isWhole}
@@ -26,6 +26,24 @@ module _ (queue : List ℕ) (start used : ℕ) (u : used ≤ length queue) where
   used-mark at h =
       mark-from (roundFrom start queue) at
       ∙ sym (ap₂ (λ (x y : ℕ). x * 256 + y) (getD-take used (roundFrom start queue) at 0 (omega arith)) (getD-take used (roundFrom start queue) (at + 1) 0 (omega arith)))
+
+-- The used bytes as parts of the buffer: one, or one up to its end and one behind it.
+module _ (queue : List ℕ) (start used : ℕ) where
+  pub used-near : used ≤ length queue - start → take (start + used - start) (drop start queue) ≡ usedIn queue start used
+  unfolding roundFrom
+  used-near n =
+      let many : start + used - start ≡ used = omega arith in
+      rw many (sym (take-append-le used (drop start queue) (take start queue) (rw length-drop n)))
+
+  pub used-far : (near : ℕ) → start + near ≡ length queue → near ≤ used → used ≤ length queue
+      → take (length queue - start) (drop start queue) ++ take (used - near) queue ≡ usedIn queue start used
+  unfolding roundFrom
+  used-far near e f u =
+      let b = drop start queue in
+      let long : length b ≡ length queue - start = length-drop start queue in
+      let many : used ≡ length b + (used - near) = omega (arith, long) in
+      ap₂ (λ (x y : List ℕ). x ++ y) (take-all (length queue - start) b (omega (arith, long))) (sym (take-take (used - near) start queue (omega arith)))
+      ∙ sym (ap (λ (n : ℕ). take n (b ++ take start queue)) many ∙ take-append-add b (take start queue) (used - near))
 
 -- a mark as it stands in the buffer: before its end, behind it, or parted by it
 module _ (queue : List ℕ) (start at : ℕ) (s : start ≤ length queue) (l : at + 2 ≤ length queue) where

@@ -9,6 +9,7 @@ ghost use lib.ListN.{length, getD, drop};
 ghost use Rattle.link.specs.Store.{marked, markAt, packetsIn, isSome, isWhole};
 ghost use Rattle.ring.specs.Ring.{roundFrom};
 ghost use Rattle.marks.specs.Queue.{usedIn, isRingWhole};
+ghost use Rattle.marks.specs.Walk.{behindPacket, overEnd, LeadsOn};
 
 // The two bytes of a mark, high byte first.
 pub fn bytes_of(mark: usize) -> [u8; 2]
@@ -62,28 +63,63 @@ pub fn is_length(total: usize, at: usize, n: usize, most: usize) -> bool
     n <= total - at - 2
 }
 
-// Whether there are packets from an index to the end of the used bytes, none of them begun.
+// Where the walk goes on from a mark that says n: behind its packet, or nowhere, which is behind every ring, where n is no length. One test judges 1 to 9,000,
+// for 0 wraps to the greatest number.
+fn behind_packet(at: usize, n: usize, nowhere: usize) -> usize
+    requires { ⌜ at < 32768 ⌝ }
+    ensures { λ r. ⌜ r ≡ behindPacket at n nowhere ⌝ }
+{
+    let less = std::num::wrapping_sub_usize(n, 1);
+    if 8999 < less {
+        return nowhere;
+    }
+    at + 3 + less
+}
+
+// Goes from mark to mark of a stretch while both bytes of one stand in it, and gives the place reached. Whether that is the end of what waits is asked once,
+// there, and not for each packet. (With a constant for nowhere the compiler's loop is longer by an instruction.)
+fn walk_stretch(stretch: &[u8], from: usize) -> usize
+    requires { ⌜ (1 ≤ length (now stretch)) × (length (now stretch) ≤ 32768) ⌝ }
+    ensures { λ r. ⌜ LeadsOn (now (stretch .entry)) from r × (length (now (stretch .entry)) ≤ r + 1) ⌝ }
+{
+    let last = stretch.len() - 1;
+    let nowhere = stretch.len() + 32768;
+    let mut at = from;
+    while at < last {
+        at = behind_packet(at, mark_at(stretch, at), nowhere);
+    }
+    at
+}
+
+// Goes on over a mark that the buffer's end parts, where the walk up to it stopped before one.
+fn over_end(queue: &[u8], start: usize, at: usize) -> usize
+    requires { ⌜ (length (now queue) ≡ 32768) × (1 ≤ start) × (start < 32768) ⌝ }
+    ensures { λ r. ⌜ r ≡ overEnd (now (queue .entry)) start at ⌝ }
+{
+    if at < 32768 - start {
+        return behind_packet(at, mark_round(queue, start, at), 65536);
+    }
+    at
+}
+
+// Whether there are packets from an index to the end of the used bytes, none of them begun: up to the buffer's end, over it, and behind it.
 fn are_packets(queue: &[u8], start: usize, used: usize, behind: usize) -> bool
-    requires { ⌜ (start ≤ length (now queue)) × (used ≤ length (now queue)) ⌝ }
+    requires { ⌜ (length (now queue) ≡ 32768) × (start < 32768) × (1 ≤ used) × (used ≤ 32768) × (behind ≤ used) ⌝ }
     ensures { λ r. ⌜ r ≡ isSome (packetsIn (drop behind (usedIn (now (queue .entry)) start used))) ⌝ }
 {
-    let mut at = behind;
-    while at < used {
-        if used - at < 2 {
-            return false;
-        }
-        let n = mark_round(queue, start, at);
-        if !is_length(used, at, n, 9000) {
-            return false;
-        }
-        at = at + 2 + n;
+    let near = 32768 - start; // from the start to the buffer's end
+    if used <= near {
+        let end = start + used;
+        return walk_stretch(&queue[start..end], behind) == used;
     }
-    true
+    let at = over_end(queue, start, walk_stretch(&queue[start..], behind));
+    let far = used - near;
+    walk_stretch(&queue[..far], at - near) == far
 }
 
 // Whether the used bytes stand for waiting packets; only the front one may be begun.
 fn is_whole(queue: &[u8], start: usize, used: usize) -> bool
-    requires { ⌜ (start ≤ length (now queue)) × (used ≤ length (now queue)) ⌝ }
+    requires { ⌜ (length (now queue) ≡ 32768) × (start < 32768) × (used ≤ 32768) ⌝ }
     ensures { λ r. ⌜ r ≡ isWhole (usedIn (now (queue .entry)) start used) ⌝ }
 {
     if used < 2 {
