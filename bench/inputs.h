@@ -7,7 +7,8 @@
 #include <stdlib.h>
 #include <string.h>
 
-enum { TAPS = 9, CALLS = 16, PACKET = 1906, RING = 32768 };
+/* Of ONES packets of one byte one more fits into the ring. */
+enum { TAPS = 9, CALLS = 16, PACKET = 1906, RING = 32768, ONES = 10921 };
 
 /* Bytes that look like samples, and never the same one for long. */
 static inline void fill_samples(uint8_t *bytes, size_t count)
@@ -24,39 +25,73 @@ static inline void fill_area(uint8_t area[1908])
     fill_samples(area + 2, PACKET);
 }
 
-/* What waits in the ring before a call: from which place on, and packets of which lengths. Every packet begins with the same samples, so that the frames of
- * all have the same bytes but for a mark: what the codes cost goes by the bytes. With a start of 31,000 the ring's end parts the front packet. */
-static const struct waiting {
+/* Bytes without a rule that a code could gain by, the same in every run: Marsaglia's xorshift from a fixed seed. */
+static inline void fill_random(uint8_t *bytes, size_t count)
+{
+    uint32_t state = 2463534242u;
+    for (size_t i = 0; i < count; i++) {
+        state ^= state << 13;
+        state ^= state >> 17;
+        state ^= state << 5;
+        bytes[i] = (uint8_t)state;
+    }
+}
+
+/* What a call is given: the packets that wait in the ring, `ones` of one byte and then some of these lengths, from which place on, and how many bytes are
+ * put. A frame that is received is the next one of its queue. Every packet begins with the same bytes, so that the frames of all have the same bytes but for
+ * the marks: what the codes cost goes by the bytes. With a start of 31,000 the ring's end parts the front packet, and the mark of a packet of one byte. */
+static const struct given {
     const char *name;
-    size_t start, lengths[5];
-} waiting[] = {
-    {"next_one", 0, {PACKET, 0}},
-    {"next_full", 0, {9000, 9000, 9000, 5760, 0}},
-    {"next_one_parted", 31000, {PACKET, 0}},
-    {"next_full_parted", 31000, {9000, 9000, 9000, 5760, 0}},
+    void (*fill)(uint8_t *bytes, size_t count);
+    size_t start, ones, lengths[5], put;
+} inputs[] = {
+    {"put", fill_samples, 0, 0, {0}, PACKET},
+    {"put_byte", fill_samples, 0, 0, {0}, 1},
+    {"put_ones", fill_samples, 0, ONES, {0}, 1},
+    {"put_ones_parted", fill_samples, 31000, ONES, {0}, 1},
+    {"next_one", fill_samples, 0, 0, {PACKET, 0}, 0},
+    {"next_full", fill_samples, 0, 0, {9000, 9000, 9000, 5760, 0}, 0},
+    {"next_one_parted", fill_samples, 31000, 0, {PACKET, 0}, 0},
+    {"next_full_parted", fill_samples, 31000, 0, {9000, 9000, 9000, 5760, 0}, 0},
+    {"next_ones", fill_samples, 0, ONES, {0}, 0},
+    {"next_ones_parted", fill_samples, 31000, ONES, {0}, 0},
+    {"next_random", fill_random, 0, 0, {PACKET, 0}, 0},
+    {"receive", fill_samples, 0, 0, {PACKET, 0}, 0},
+    {"receive_ones", fill_samples, 0, ONES, {0}, 0},
+    {"receive_random", fill_random, 0, 0, {PACKET, 0}, 0},
 };
 
-/* What waits before the call of this name, or NULL. */
-static inline const struct waiting *waiting_before(const char *name)
+/* What the call of this name is given, or NULL. */
+static inline const struct given *given_to(const char *name)
 {
-    for (size_t i = 0; i < sizeof waiting / sizeof waiting[0]; i++)
-        if (!strcmp(waiting[i].name, name))
-            return &waiting[i];
+    for (size_t i = 0; i < sizeof inputs / sizeof inputs[0]; i++)
+        if (!strcmp(inputs[i].name, name))
+            return &inputs[i];
     return NULL;
 }
 
-/* Lays the packets into the ring; how many bytes they use. */
-static inline size_t fill_queue(uint8_t queue[RING], const struct waiting *given)
+static inline int begins(const char *name, const char *word) { return !strncmp(name, word, strlen(word)); }
+
+/* Lays a packet and its mark into the ring; the place behind it. */
+static inline size_t lay_packet(uint8_t queue[RING], size_t at, const uint8_t *packet, size_t length)
+{
+    queue[at++ % RING] = (uint8_t)(length >> 8);
+    queue[at++ % RING] = (uint8_t)length;
+    for (size_t i = 0; i < length; i++)
+        queue[at++ % RING] = packet[i];
+    return at;
+}
+
+/* Lays the packets that wait into the ring; how many bytes they use. */
+static inline size_t fill_queue(uint8_t queue[RING], const struct given *given)
 {
     uint8_t packet[9000];
     size_t at = given->start;
-    fill_samples(packet, sizeof packet);
-    for (const size_t *length = given->lengths; *length; length++) {
-        queue[at++ % RING] = (uint8_t)(*length >> 8);
-        queue[at++ % RING] = (uint8_t)*length;
-        for (size_t i = 0; i < *length; i++)
-            queue[at++ % RING] = packet[i];
-    }
+    given->fill(packet, sizeof packet);
+    for (size_t k = 0; k < given->ones; k++)
+        at = lay_packet(queue, at, packet, 1);
+    for (const size_t *length = given->lengths; *length; length++)
+        at = lay_packet(queue, at, packet, *length);
     return at - given->start;
 }
 
