@@ -1,16 +1,17 @@
-/* Calls the library COUNT times: calls NAME COUNT. Writes the frame at hand to standard output. */
+/* Calls the library COUNT times: calls NAME COUNT [TAPS]. Writes the frame at hand to standard output. */
 #include "inputs.h"
 #include "taqwelim.h"
 
 static uint8_t queues[CALLS][TAQWELIM_QUEUE_SIZE], packet[PACKET], frame[TAQWELIM_FRAME_SIZE], hold[TAQWELIM_HOLD_SIZE], list[TAQWELIM_LIST_LEAST];
 static const struct given *given;
 static taqwelim_sender sender; /* of each queue, before the call */
+static uint32_t taps;
 
 static void next_frame(const char *name, int k)
 {
     taqwelim_fields fields = {0};
     fields.message.opcode = TAQWELIM_ABSENT;
-    must(taqwelim_next_frame(TAPS, fields, sender, queues[k], sizeof queues[k], frame, sizeof frame).refusal, name);
+    must(taqwelim_next_frame(taps, fields, sender, queues[k], sizeof queues[k], frame, sizeof frame).refusal, name);
 }
 
 static void call(const char *name, int k)
@@ -20,13 +21,14 @@ static void call(const char *name, int k)
     else if (begins(name, "put"))
         must(taqwelim_put(queues[k], sizeof queues[k], sender, packet, given->put).refusal, name);
     else
-        must(taqwelim_receive(TAPS, frame, sizeof frame, taqwelim_fresh_receiver(), hold, sizeof hold, list, sizeof list).refusal, name);
+        must(taqwelim_receive(taps, frame, sizeof frame, taqwelim_fresh_receiver(), hold, sizeof hold, list, sizeof list).refusal, name);
 }
 
 int main(int argc, char **argv)
 {
     const char *name = argc > 1 ? argv[1] : "no call";
     int count = argc > 2 ? atoi(argv[2]) : 0;
+    taps = taps_of(argc, argv);
     given = given_to(name);
     must(!given, name);
     given->fill(packet, sizeof packet);

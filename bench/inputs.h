@@ -8,7 +8,7 @@
 #include <string.h>
 
 /* Of ONES packets of one byte one more fits into the ring. */
-enum { TAPS = 9, CALLS = 16, PACKET = 1906, RING = 32768, ONES = 10921 };
+enum { CALLS = 16, PACKET = 1906, RING = 32768, ONES = 10921 };
 
 /* Bytes that look like samples, and never the same one for long. */
 static inline void fill_samples(uint8_t *bytes, size_t count)
@@ -69,6 +69,9 @@ static inline const struct given *given_to(const char *name)
             return &inputs[i];
     return NULL;
 }
+
+/* The taps are the third argument, or taps 0 and 3. */
+static inline uint32_t taps_of(int argc, char **argv) { return argc > 3 ? (uint32_t)strtoul(argv[3], NULL, 0) : 9; }
 
 static inline int begins(const char *name, const char *word) { return !strncmp(name, word, strlen(word)); }
 

@@ -1,4 +1,4 @@
-/* Calls a part of the library COUNT times: parts NAME COUNT. Writes the frame at hand to standard output. */
+/* Calls a part of the library COUNT times: parts NAME COUNT [TAPS]. Writes the frame at hand to standard output. */
 #include "inputs.h"
 
 void part_write_parity(uint8_t *payload, size_t length);
@@ -10,6 +10,7 @@ uint8_t part_open(uint32_t taps, const uint8_t *frame, size_t frame_length, uint
 
 static uint8_t area[1908], payload[2040], frame[2081], opened[1908];
 static volatile uint32_t sum;
+static uint32_t taps;
 
 static void call(const char *name)
 {
@@ -20,11 +21,11 @@ static void call(const char *name)
     else if (!strcmp(name, "crc_32"))
         sum = part_crc_32(area, sizeof area);
     else if (!strcmp(name, "scramble"))
-        part_scramble(TAPS, frame + 9, 2072);
+        part_scramble(taps, frame + 9, 2072);
     else if (!strcmp(name, "build"))
-        part_build(TAPS, area, sizeof area, frame, sizeof frame);
+        part_build(taps, area, sizeof area, frame, sizeof frame);
     else if (!strcmp(name, "open"))
-        must(part_open(TAPS, frame, sizeof frame, opened, sizeof opened), name);
+        must(part_open(taps, frame, sizeof frame, opened, sizeof opened), name);
     else
         must(1, name);
 }
@@ -32,10 +33,11 @@ static void call(const char *name)
 int main(int argc, char **argv)
 {
     int count = argc > 2 ? atoi(argv[2]) : 0;
+    taps = taps_of(argc, argv);
     fill_area(area);
     memcpy(payload, area, sizeof area);
     part_write_parity(payload, sizeof payload);
-    part_build(TAPS, area, sizeof area, frame, sizeof frame);
+    part_build(taps, area, sizeof area, frame, sizeof frame);
     for (int k = 0; k < count; k++)
         call(argv[1]);
     return show(frame, sizeof frame);

@@ -1,4 +1,4 @@
-/* Calls the peer COUNT times: peer NAME COUNT. Writes the frame at hand to standard output. */
+/* Calls the peer COUNT times: peer NAME COUNT [TAPS]. Writes the frame at hand to standard output. */
 #include "inputs.h"
 #include "peer.h"
 
@@ -8,6 +8,7 @@ static uint8_t area[AREA], payload[PAYLOAD], frame[FRAME], opened[AREA], opened_
 static const struct given *given; /* to put, next_frame and receive; NULL for the parts of a frame's coding */
 static struct peer_sender waits;  /* of each queue, before the call */
 static volatile uint32_t sum;
+static uint32_t taps;
 
 static void call(const char *name, int k)
 {
@@ -15,11 +16,11 @@ static void call(const char *name, int k)
     struct peer_receiver receiver = {0, 0, 0};
     struct peer_received received;
     if (given && begins(name, "next"))
-        must(peer_next_frame(TAPS, queues[k], QUEUE, &sender, frame, FRAME), name);
+        must(peer_next_frame(taps, queues[k], QUEUE, &sender, frame, FRAME), name);
     else if (given && begins(name, "put"))
         must(peer_put(queues[k], QUEUE, &sender, packet, given->put), name);
     else if (given)
-        must(peer_receive(TAPS, frame, FRAME, &receiver, hold, HOLD, list, LIST, &received), name);
+        must(peer_receive(taps, frame, FRAME, &receiver, hold, HOLD, list, LIST, &received), name);
     else if (!strcmp(name, "write_parity"))
         peer_write_parity(payload);
     else if (!strcmp(name, "are_codewords"))
@@ -27,11 +28,11 @@ static void call(const char *name, int k)
     else if (!strcmp(name, "crc_32"))
         sum = peer_crc_32(area, AREA);
     else if (!strcmp(name, "scramble"))
-        peer_scramble(TAPS, frame + 9, 2072);
+        peer_scramble(taps, frame + 9, 2072);
     else if (!strcmp(name, "build"))
-        peer_build(TAPS, header, area, frame);
+        peer_build(taps, header, area, frame);
     else if (!strcmp(name, "open"))
-        must(peer_open(TAPS, frame, opened_header, opened), name);
+        must(peer_open(taps, frame, opened_header, opened), name);
     else
         must(1, name);
 }
@@ -43,7 +44,7 @@ static void prepare(const char *name)
     fill_area(area);
     memcpy(payload, area, AREA);
     peer_write_parity(payload);
-    peer_build(TAPS, header, area, frame);
+    peer_build(taps, header, area, frame);
     given = given_to(name);
     if (!given)
         return;
@@ -54,13 +55,14 @@ static void prepare(const char *name)
     }
     struct peer_sender sender = waits;
     if (begins(name, "receive"))
-        must(peer_next_frame(TAPS, queues[0], QUEUE, &sender, frame, FRAME), name);
+        must(peer_next_frame(taps, queues[0], QUEUE, &sender, frame, FRAME), name);
 }
 
 int main(int argc, char **argv)
 {
     const char *name = argc > 1 ? argv[1] : "no call";
     int count = argc > 2 ? atoi(argv[2]) : 0;
+    taps = taps_of(argc, argv);
     prepare(name);
     for (int k = 0; k < count && k < CALLS; k++)
         call(name, k);

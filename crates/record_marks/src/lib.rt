@@ -25,10 +25,10 @@ pub fn is_mark(at: usize, room: usize, mark: usize) -> bool
 fn may_begin(at: usize, mark: usize) -> bool
     ensures { λ r. ⌜ r ≡ mayBegin at mark ⌝ }
 {
-    if at == 0 {
+    if mark / 32768 % 2 == 1 {
         return true;
     }
-    mark / 32768 % 2 == 1
+    at == 0
 }
 
 fn may_end(room: usize, mark: usize) -> bool

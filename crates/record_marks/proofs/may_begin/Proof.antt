@@ -1,15 +1,26 @@
+-- "first" is looked at before the position, since nearly all records have it; the definition names the position first.
+use mathlib.Core.Path.{_≡_, refl}
+use mathlib.Core.Bool.{Bool, true, false, _||_}
 use borrow.Author.Tests.{eq-eqb, ne-eqb}
 use Rattle.record_marks.specs.Mark.{mayBegin}
 use Rattle.record_marks.proofs.may_begin.Statement.{statement}
 use Rattle.record_marks.proofs.may_begin.Tie as tie
 
+or-true : (a : Bool) → (a || true) ≡ true
+or-true true = refl
+or-true false = refl
+
+or-false : (a : Bool) → (a || false) ≡ a
+or-false true = refl
+or-false false = refl
+
 returns : tie.Need-returns
 unfolding mayBegin
-returns c = simp (eq-eqb _ _ (c .if1 .taken))
+returns c = simp (eq-eqb _ _ (c .if1 .taken), or-true)
 
 returns-2 : tie.Need-returns-2
 unfolding mayBegin
-returns-2 c = simp (ne-eqb _ _ (c .if1 .left))
+returns-2 c = simp (ne-eqb _ _ (c .if1 .left), or-false)
 
 pub may-begin-spec : {M : Type 1} → statement M
 may-begin-spec = tie.close (tie.spec returns returns-2)
