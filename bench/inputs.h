@@ -7,7 +7,7 @@
 #include <stdlib.h>
 #include <string.h>
 
-/* Of ONES packets of one byte one more fits into the ring. */
+/* ONES packets of one byte leave room for just one more in the ring. */
 enum { CALLS = 16, PACKET = 1906, RING = 32768, ONES = 10921 };
 
 /* Bytes that look like samples, and never the same one for long. */
@@ -38,8 +38,9 @@ static inline void fill_random(uint8_t *bytes, size_t count)
 }
 
 /* What a call is given: the packets that wait in the ring, `ones` of one byte and then some of these lengths, from which place on, and how many bytes are
- * put. A frame that is received is the next one of its queue. Every packet begins with the same bytes, so that the frames of all have the same bytes but for
- * the marks: what the codes cost goes by the bytes. With a start of 31,000 the ring's end parts the front packet, and the mark of a packet of one byte. */
+ * put. A frame that is received is the next one of its queue. Every packet begins with the same bytes, so that frames of long packets have the same bytes
+ * but for a mark: what the peer's codes cost goes by the bytes. With a start of 31,000 the ring's end parts the front packet, and the mark of a packet of one
+ * byte. */
 static const struct given {
     const char *name;
     void (*fill)(uint8_t *bytes, size_t count);

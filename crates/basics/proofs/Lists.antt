@@ -1,6 +1,6 @@
 -- Laws of lists of zeros, of bytes and of entries; and of parts of a list, as code cuts them.
 use mathlib.Core.Path.{_≡_, refl, sym, ap, _∙_, subst}
-use mathlib.Core.List.{List, [], _∷_, _++_}
+use mathlib.Core.List.{List, [], _∷_, _++_, append-nil}
 use Prim.Native.Nat.{ℕ, zero, suc, _+_, _-_, _≤_, _<_}
 use native.Mathlib.Nat.{not-suc-le-zero, le-of-suc-le-suc, add-zero, zero-add, add-suc, suc-add}
 use native.Mathlib.Omega.{arith}
@@ -73,10 +73,18 @@ entries-front l n h =
     let k-lt = rw (entries-length (byte l) 0 n) at hk in
     entries-at (byte l) 0 n k k-lt ∙ ap (byte l) (zero-add k) ∙ sym (getD-take n l k 0 k-lt))
 
-pub entries-rest : (l : List ℕ) (k n : ℕ) → length l ≡ k + n → entries (byte l) k n ≡ drop k l
+-- those from k on, and what stands behind them
+pub entries-then : (l : List ℕ) (k n : ℕ) → k + n ≤ length l → entries (byte l) k n ++ drop (k + n) l ≡ drop k l
 unfolding entries
-entries-rest l k zero e = let h : length l ≤ k = omega arith in sym (drop-of-length-le l h)
-entries-rest l k (suc n) e = ap (λ (t : List ℕ). byte l k ∷ t) (entries-rest l (suc k) n (omega arith)) ∙ sym (drop-cons l k 0 (omega arith))
+entries-then l k zero h = ap (λ (i : ℕ). drop i l) (add-zero k)
+entries-then l k (suc n) h =
+    ap (λ (i : ℕ). byte l k ∷ (entries (byte l) (suc k) n ++ drop i l)) (add-suc k n ∙ sym (suc-add k n))
+    ∙ ap (λ (t : List ℕ). byte l k ∷ t) (entries-then l (suc k) n (omega arith)) ∙ sym (drop-cons l k 0 (omega arith))
+
+pub entries-rest : (l : List ℕ) (k n : ℕ) → length l ≡ k + n → entries (byte l) k n ≡ drop k l
+entries-rest l k n e =
+    let h : length l ≤ k + n = omega arith in
+    sym (ap (λ (t : List ℕ). entries (byte l) k n ++ t) (drop-of-length-le l h) ∙ append-nil (entries (byte l) k n)) ∙ entries-then l k n (omega arith)
 
 -- ---- parts: `&l[k..]`, `&l[from..from + n]`, and a part of a front
 

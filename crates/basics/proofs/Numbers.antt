@@ -1,15 +1,15 @@
 -- A number is its bytes, and bytes are their number: once, over the count of bytes. And the bytes of a number one by one, those of a sum too.
 use mathlib.Core.Path.{_≡_, refl, sym, ap, ap₂, _∙_}
-use mathlib.Core.List.{List, _∷_}
-use Prim.Native.Nat.{ℕ, zero, suc, _+_, _*_, _/_, _%_, _^_, _<_}
+use mathlib.Core.List.{List, _∷_, _++_}
+use Prim.Native.Nat.{ℕ, zero, suc, _+_, _*_, _/_, _%_, _^_, _≤_, _<_}
 use native.Mathlib.Nat.{not-suc-le-zero, le-of-suc-le-suc, mod-lt}
 use native.Mathlib.Omega.{arith}
 use lib.Dec.{lit<}
 use lib.Bits.{bitXor, xor-shr, xor-mod}
-use lib.ListN.{getD}
+use lib.ListN.{length, getD, drop}
 use Rattle.basics.specs.Lists.{Bytes, entries}
 use Rattle.basics.specs.Numbers.{lowFirst, numberAt}
-use Rattle.basics.proofs.Lists.{byte, byte-at, entries-at}
+use Rattle.basics.proofs.Lists.{byte, byte-at, entries-at, entries-then}
 
 number-behind : (i n b : ℕ) (l : List ℕ) → numberAt (suc i) n (b ∷ l) ≡ numberAt i n l
 number-behind i zero b l = refl
@@ -32,6 +32,9 @@ bytes-of-number l h i (suc n) =
     let low : (getD l i 0 + 256 * rest) % 256 ≡ getD l i 0 = omega arith in
     let high : (getD l i 0 + 256 * rest) / 256 ≡ rest = omega arith in
     ap₂ (λ (x : ℕ) (xs : List ℕ). x ∷ xs) low (ap (lowFirst n) high ∙ bytes-of-number l h (suc i) n)
+
+pub number-then : (l : List ℕ) → Bytes l → (i n : ℕ) → i + n ≤ length l → lowFirst n (numberAt i n l) ++ drop (i + n) l ≡ drop i l
+number-then l b i n h = ap (λ (t : List ℕ). t ++ drop (i + n) l) (bytes-of-number l b i n) ∙ entries-then l i n h
 
 pub number-lt : (l : List ℕ) → Bytes l → (i n : ℕ) → numberAt i n l < 256 ^ n
 number-lt l h i zero = omega arith

@@ -93,7 +93,7 @@ pub fn taps(body: &[u8]) -> Outcome {
     outcome::of(&found, &body[4..])
 }
 
-// Taps in four bytes, some bytes, and the same scrambled. No record is as long as twice the buffer.
+// Taps in four bytes, some bytes, and the same scrambled. A record's length is told in two bytes, so the half of one fits into the buffer.
 pub fn scrambled(body: &mut [u8]) -> Outcome {
     if body.len() < 4 {
         return Outcome::Malformed;

@@ -2,16 +2,15 @@
 use mathlib.Core.Path.{_≡_, refl, sym, ap, ap₂, _∙_}
 use mathlib.Core.List.{List, [], _∷_, _++_, append-assoc, append-nil}
 use Prim.Native.Nat.{ℕ, zero, suc, _+_, _-_, _*_, _/_, _^_, _≤_, _<_}
-use native.Mathlib.Nat.{add-zero, add-suc, suc-add}
 use native.Mathlib.Omega.{arith}
 use lib.Bits.{bitXor, xor-comm, xor-zero-r, xor-mod, xor-shr}
 use lib.ListN.{length, take, drop, length-append, length-drop, take-append-drop, drop-of-length-le}
-use lib.Seq.{drop-cons, length-take-le, drop-append-le, drop-append-add}
+use lib.Seq.{length-take-le, drop-append-le, drop-append-add}
 use borrow.Rule.Slice.PartMut.{putMid}
-use Rattle.basics.specs.Lists.{Bytes, entries}
+use Rattle.basics.specs.Lists.{Bytes}
 use Rattle.basics.specs.Numbers.{lowFirst, numberAt}
-use Rattle.basics.proofs.Lists.{byte, cut-rest}
-use Rattle.basics.proofs.Numbers.{bytes-of-number}
+use Rattle.basics.proofs.Lists.{cut-rest}
+use Rattle.basics.proofs.Numbers.{number-then}
 use Rattle.basics.proofs.Xor.{xor-assoc}
 use Rattle.lent.specs.Written.{written}
 use Rattle.division.specs.Division.{plus}
@@ -22,23 +21,12 @@ use Rattle.crc.proofs.Linear.{crc-plus}
 use Rattle.crc.proofs.Append.{later-add, later-lt, later-xor, crc-32-lt, crc-append}
 use Rattle.crc.proofs.Powers.{divided, powers}
 
--- ---- the bytes of a number
-
+-- the bytes of a sum of two numbers
 low-xor : (n a b : ℕ) → lowFirst n (bitXor a b) ≡ plus (lowFirst n a) (lowFirst n b)
 unfolding plus
 low-xor zero a b = refl
 low-xor (suc n) a b =
     ap₂ (λ (x : ℕ) (l : List ℕ). x ∷ l) (xor-mod a b 8) (ap (lowFirst n) (xor-shr a b 8) ∙ low-xor n (a / 256) (b / 256))
-
-entries-then : (l : List ℕ) (i n : ℕ) → i + n ≤ length l → entries (byte l) i n ++ drop (i + n) l ≡ drop i l
-unfolding entries
-entries-then l i zero h = ap (λ (k : ℕ). drop k l) (add-zero i)
-entries-then l i (suc n) h =
-    ap (λ (k : ℕ). byte l i ∷ (entries (byte l) (suc i) n ++ drop k l)) (add-suc i n ∙ sym (suc-add i n))
-    ∙ ap (λ (t : List ℕ). byte l i ∷ t) (entries-then l (suc i) n (omega arith)) ∙ sym (drop-cons l i 0 (omega arith))
-
-number-then : (l : List ℕ) → Bytes l → (i n : ℕ) → i + n ≤ length l → lowFirst n (numberAt i n l) ++ drop (i + n) l ≡ drop i l
-number-then l b i n h = ap (λ (t : List ℕ). t ++ drop (i + n) l) (bytes-of-number l b i n) ∙ entries-then l i n h
 
 -- ---- a number is added
 
@@ -98,9 +86,9 @@ added-sum x [] = sym (xor-zero-r x)
 added-sum x (y ∷ ys) = added-sum (bitXor x y) ys ∙ xor-assoc x y (sum ys)
 
 -- one more number is added to a message that had n bytes: its length and its check sum go from k and y to m and z
-pub then : {k m n x y z : ℕ} (at number : ℕ) → (k ≡ n) × (y ≡ x) → m ≡ k → z ≡ bitXor y (numberSum k at number)
+pub one-more : {k m n x y z : ℕ} (at number : ℕ) → (k ≡ n) × (y ≡ x) → m ≡ k → z ≡ bitXor y (numberSum k at number)
     → (m ≡ n) × (z ≡ bitXor x (numberSum n at number))
-then at number s long e = (long ∙ s .0, e ∙ ap₂ (λ (x n : ℕ). bitXor x (numberSum n at number)) (s .1) (s .0))
+one-more at number s long e = (long ∙ s .0, e ∙ ap₂ (λ (x n : ℕ). bitXor x (numberSum n at number)) (s .1) (s .0))
 
 -- a number that stands e bytes before the last place adds what it would there, times x^(8 e)
 moved : (n at e number : ℕ) → at + e ≡ 123 → 131 ≤ n → numberSum n at number ≡ later (8 * e) (numberSum n 123 number)
@@ -109,7 +97,7 @@ moved n at e number q h =
     let sum = crc-32 (lowFirst 8 number) in
     ap (λ (j : ℕ). later j sum) k ∙ later-add (8 * (n - 131)) (8 * e) sum
 
--- what the number at the front adds is the sum of what it adds at the seven places, so those that follow it have then the check sum of the whole
+-- what the number at the front adds is the sum of what it adds at the seven places, so those that follow it have one-more the check sum of the whole
 pub folded : (l : List ℕ) → Bytes l → 131 ≤ length l → (number : ℕ) → number ≡ numberAt 0 8 l
     → let w : ℕ → ℕ = λ at. numberSum (length l) at number in
     added (crc-32 (drop 8 l)) (w 12 ∷ w 31 ∷ w 39 ∷ w 59 ∷ w 77 ∷ w 100 ∷ w 123 ∷ []) ≡ crc-32 l
@@ -131,8 +119,8 @@ folded l b h number e =
 
 -- ---- a loop over a message l of n bytes: from index i on it becomes m
 
-pub rest : (l : List ℕ) (n i : ℕ) → length l ≡ n → take (n - i) (drop i l) ≡ drop i l
-rest l n i e = ap (λ (k : ℕ). take (k - i) (drop i l)) (sym e) ∙ cut-rest l i
+pub to-the-end : (l : List ℕ) (n i : ℕ) → length l ≡ n → take (n - i) (drop i l) ≡ drop i l
+to-the-end l n i e = ap (λ (k : ℕ). take (k - i) (drop i l)) (sym e) ∙ cut-rest l i
 
 pub fold-turn : (l m : List ℕ) (n i : ℕ) → length l ≡ n → i ≤ n → crc-32 (drop 8 m) ≡ crc-32 (take (n - i) (drop i l))
     → crc-32 (drop (i + 8) (putMid i (n - i) l m)) ≡ crc-32 (drop i l)
@@ -142,4 +130,4 @@ fold-turn l m n i e h same =
     ∙ ap (λ (r : List ℕ). crc-32 (drop (i + 8) (take i l ++ r))) (append-nil m)
     ∙ ap (λ (k : ℕ). crc-32 (drop (k + 8) (take i l ++ m))) (sym (length-take-le i l (omega arith)))
     ∙ ap crc-32 (drop-append-add (take i l) m 8)
-    ∙ same ∙ ap crc-32 (rest l n i e)
+    ∙ same ∙ ap crc-32 (to-the-end l n i e)

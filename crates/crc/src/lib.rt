@@ -1,4 +1,4 @@
-// The two check sums of a frame, with no table, since constant data may not be scrubbed: the CRC-16 bit by bit, and the CRC-32 by folding.
+// The two check sums of a frame, with no table, since a small controller does not scrub constant data: the CRC-16 bit by bit, and the CRC-32 by folding.
 //
 // The polynomial of the CRC-32 divides x^984 + x^888 + x^736 + x^672 + x^512 + x^368 + x^184 + 1, whose powers are of whole bytes. So the first eight bytes
 // of a message may be added to those that begin 12, 31, 39, 59, 77, 100 and 123 bytes later, and left out. The last 124 bytes are divided bit by bit.
@@ -69,7 +69,7 @@ fn add_number(bytes: &mut [u8], at: usize, number: u64)
     lent::numbers::write_number(bytes, at, sum);
 }
 
-// Adds the first eight bytes to later ones. The check sum of those that follow the eight is then that of all before.
+// Adds the first eight bytes to later ones, up to the eight from index 123 on. The check sum of those that follow the first eight is then that of all before.
 fn fold(bytes: &mut [u8])
     requires { ⌜ 131 ≤ length (now bytes) ⌝ }
     ensures { λ _. ⌜ crc-32 (drop 8 (now (bytes .exit))) ≡ crc-32 (now (bytes .entry)) ⌝ }
@@ -94,6 +94,7 @@ pub fn crc_32(message: &[u8]) -> u32
     let mut bytes = [0u8; 1908];
     lent::write_at(&mut bytes, 0, message);
     let mut i = 0;
+    // 223 turns leave 124 bytes, too few for one more.
     while i < 1784 {
         fold(&mut bytes[i..]);
         i += 8;

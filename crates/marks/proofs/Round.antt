@@ -75,7 +75,7 @@ module _ (queue : List ℕ) (start used : ℕ) (size : length queue ≡ 32768) (
       → LeadsOn (take (start + used - start) (drop start queue)) behind at → length (take (start + used - start) (drop start queue)) ≤ at + 1
       → eqb at used ≡ wholeFrom waiting behind
   one-stretch {behind} {at} n b on h =
-      let all = used-near queue start used (omega arith) in
+      let all = used-near queue start used (omega arith) (omega arith) in
       let size-near : length (take (start + used - start) (drop start queue)) ≡ used = ap length all ∙ used-size in
       ap (eqb at) (sym size-near)
       ∙ walk.last on (omega arith) h
@@ -115,7 +115,7 @@ module _ (queue : List ℕ) (start used : ℕ) (size : length queue ≡ 32768) (
       let near = 32768 - start in
       let rest = take (used - near) queue in
       let rest-size : length rest ≡ used - near = length-take-le (used - near) queue (omega arith) in
-      let all : front ++ rest ≡ waiting = used-far queue start used near (omega arith) (omega arith) (omega arith) in
+      let all : front ++ rest ≡ waiting = used-far queue start used (omega arith) near (omega arith) (omega arith) (omega arith) in
       let place : length front + (from - near) ≡ overEnd queue start at = omega (arith, front-size, past-end at h) in
       ap (eqb reached) (sym rest-size)
       ∙ walk.last rest-on (omega arith) rest-h

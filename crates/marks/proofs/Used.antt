@@ -5,14 +5,14 @@ use mathlib.Core.List.{List, _++_}
 use Prim.Native.Nat.{ℕ, _+_, _-_, _*_, _%_, _≤_, _<_}
 use native.Mathlib.Omega.{arith}
 use lib.Dec.{ltb, leb}
-use lib.ListN.{length, getD, take, drop, length-drop}
-use lib.Seq.{length-take-le, getD-take, take-all, take-append-le, take-append-add, take-take}
+use lib.ListN.{length, getD, take, drop}
+use lib.Seq.{length-take-le, getD-take}
 use borrow.Author.Tests.{ltb-true, leb-true}
 use Rattle.basics.proofs.Tests.{left-true, right-true}
 use Rattle.link.specs.Store.{markAt, isWhole}
 use Rattle.link.proofs.Store.{markFrom, mark-from}
 use Rattle.ring.specs.Ring.{roundFrom}
-use Rattle.ring.proofs.Laws.{round-length, byte-near, byte-far}
+use Rattle.ring.proofs.Laws.{round-length, byte-near, byte-far, part-near, part-over}
 use Rattle.ring.proofs.Places.{round-stands}
 use Rattle.marks.specs.Queue.{usedIn, isRingWhole}
 
@@ -28,22 +28,20 @@ module _ (queue : List ℕ) (start used : ℕ) (u : used ≤ length queue) where
       ∙ sym (ap₂ (λ (x y : ℕ). x * 256 + y) (getD-take used (roundFrom start queue) at 0 (omega arith)) (getD-take used (roundFrom start queue) (at + 1) 0 (omega arith)))
 
 -- The used bytes as parts of the buffer: one, or one up to its end and one behind it.
-module _ (queue : List ℕ) (start used : ℕ) where
+module _ (queue : List ℕ) (start used : ℕ) (s : start ≤ length queue) where
+  from-start : start + 0 ≡ start
+  from-start = omega arith
+
   pub used-near : used ≤ length queue - start → take (start + used - start) (drop start queue) ≡ usedIn queue start used
-  unfolding roundFrom
   used-near n =
       let many : start + used - start ≡ used = omega arith in
-      rw many (sym (take-append-le used (drop start queue) (take start queue) (rw length-drop n)))
+      ap₂ (λ (k i : ℕ). take k (drop i queue)) many (sym from-start) ∙ part-near start queue s 0 used (omega arith)
 
-  pub used-far : (near : ℕ) → start + near ≡ length queue → near ≤ used → used ≤ length queue
+  pub used-far : (near : ℕ) → near ≡ length queue - start → near ≤ used → used ≤ length queue
       → take (length queue - start) (drop start queue) ++ take (used - near) queue ≡ usedIn queue start used
-  unfolding roundFrom
   used-far near e f u =
-      let b = drop start queue in
-      let long : length b ≡ length queue - start = length-drop start queue in
-      let many : used ≡ length b + (used - near) = omega (arith, long) in
-      ap₂ (λ (x y : List ℕ). x ++ y) (take-all (length queue - start) b (omega (arith, long))) (sym (take-take (used - near) start queue (omega arith)))
-      ∙ sym (ap (λ (n : ℕ). take n (b ++ take start queue)) many ∙ take-append-add b (take start queue) (used - near))
+      ap₂ (λ (k i : ℕ). take k (drop i queue) ++ take (used - near) queue) (sym e) (sym from-start)
+      ∙ part-over start queue 0 used near s (omega arith) (omega arith) f
 
 -- a mark as it stands in the buffer: before its end, behind it, or parted by it
 module _ (queue : List ℕ) (start at : ℕ) (s : start ≤ length queue) (l : at + 2 ≤ length queue) where

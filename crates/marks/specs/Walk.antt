@@ -1,4 +1,5 @@
--- The walk of the marks, stretch by stretch, as the contracts of private functions tell it: no contract of a call cites what stands here.
+-- What the code does: the walk of the marks, stretch by stretch. The contracts of the private functions cite these words; `proofs/` shows that they come to
+-- `isRingWhole`, so whoever reads that need not believe anything here.
 use mathlib.Core.Path.{_≡_}
 use mathlib.Core.Bool.{Bool, cond, _&&_}
 use mathlib.Core.List.{List, _++_}

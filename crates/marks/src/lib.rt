@@ -91,7 +91,7 @@ fn walk_stretch(stretch: &[u8], from: usize) -> usize
     at
 }
 
-// Goes on over a mark that the buffer's end parts, where the walk up to it stopped before one.
+// Goes on over a mark that the buffer's end parts, where the walk up to it stopped before one; 65,536 is nowhere, behind every ring.
 fn over_end(queue: &[u8], start: usize, at: usize) -> usize
     requires { ⌜ (length (now queue) ≡ 32768) × (1 ≤ start) × (start < 32768) ⌝ }
     ensures { λ r. ⌜ r ≡ overEnd (now (queue .entry)) start at ⌝ }

@@ -22,6 +22,7 @@ pub fn is_mark(at: usize, room: usize, mark: usize) -> bool
     false
 }
 
+// "First" is looked at before the position, since nearly all records have it.
 fn may_begin(at: usize, mark: usize) -> bool
     ensures { λ r. ⌜ r ≡ mayBegin at mark ⌝ }
 {

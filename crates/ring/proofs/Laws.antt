@@ -72,7 +72,7 @@ part-both : (l : List ℕ) (at k m : ℕ) → take k (drop at l) ++ take m (drop
 part-both l at k m = sym (take-add k m (drop at l) ∙ ap (λ (t : List ℕ). take k (drop at l) ++ take m t) (drop-drop k at l))
 
 -- n bytes over the buffer's end: k up to it, and those behind it at its front
-part-over : (start : ℕ) (buffer : List ℕ) (at n k : ℕ) → start ≤ length buffer → at + n ≤ length buffer → at + k ≡ length buffer - start → k ≤ n
+pub part-over : (start : ℕ) (buffer : List ℕ) (at n k : ℕ) → start ≤ length buffer → at + n ≤ length buffer → at + k ≡ length buffer - start → k ≤ n
     → take k (drop (start + at) buffer) ++ take (n - k) buffer ≡ take n (drop at (roundFrom start buffer))
 part-over start buffer at n k h l e f =
     let r = roundFrom start buffer in

@@ -84,9 +84,9 @@ module _ (taps : ℕ) where
       follows-same (λ k. key taps 8 (after taps (0 + 2 ^ 3 * k) firstStages)) (keyByte taps)
       (λ k. ap (λ (j : ℕ). key taps 8 (after taps j firstStages)) (zero-add (8 * k))) (key-follows 8 3 0)
 
-  pub byte-lt : (i : ℕ) → keyByte taps i < 256
+  pub key-byte-lt : (i : ℕ) → keyByte taps i < 256
   unfolding keyByte
-  byte-lt i = key-lt taps 8 (after taps (8 * i) firstStages)
+  key-byte-lt i = key-lt taps 8 (after taps (8 * i) firstStages)
 
   -- n bytes from byte r on
   number-follows : (n m r : ℕ) → Follows 25 taken (λ k. keyNumber taps n (r + 2 ^ m * k))
@@ -96,7 +96,7 @@ module _ (taps : ℕ) where
       follows-same (λ k. keyNumber taps n (suc r + 2 ^ m * k) * 2 ^ 8 + keyByte taps (r + 2 ^ m * k)) (λ k. keyNumber taps (suc n) (r + 2 ^ m * k))
       (λ k. ap (λ (j : ℕ). keyNumber taps n j * 2 ^ 8 + keyByte taps (r + 2 ^ m * k)) (suc-add r (2 ^ m * k)))
       (together 8 25 taken (λ k. keyNumber taps n (suc r + 2 ^ m * k)) (λ k. keyByte taps (r + 2 ^ m * k)) bits
-      (λ k. byte-lt (r + 2 ^ m * k)) (number-follows n m (suc r)) (strided (keyByte taps) bytes-follow m r))
+      (λ k. key-byte-lt (r + 2 ^ m * k)) (number-follows n m (suc r)) (strided (keyByte taps) bytes-follow m r))
 
   -- numbers of n bytes, one after the other
   abbrev pub level : ℕ → ℕ → ℕ
@@ -116,10 +116,10 @@ module _ (taps : ℕ) where
 
   -- ---- how they are put together
 
-  pub number-lt : (n i : ℕ) → keyNumber taps n i < 256 ^ n
+  pub key-number-lt : (n i : ℕ) → keyNumber taps n i < 256 ^ n
   unfolding keyNumber
-  number-lt zero i = lit< tt
-  number-lt (suc n) i = omega (arith, number-lt n (suc i), byte-lt i, pow-suc 256 n)
+  key-number-lt zero i = lit< tt
+  key-number-lt (suc n) i = omega (arith, key-number-lt n (suc i), key-byte-lt i, pow-suc 256 n)
 
   number-join : (m n i : ℕ) → keyNumber taps n (m + i) * 256 ^ m + keyNumber taps m i ≡ keyNumber taps (m + n) i
   unfolding keyNumber

@@ -4,13 +4,13 @@ use mathlib.Core.List.{List}
 use Prim.Native.Nat.{ℕ, _+_, _-_, _*_, _%_, _^_, _≤_, _<_}
 use native.Mathlib.Nat.{not-suc-le-zero, zero-add, one-mul, lt-of-lt-of-le, mul-le-mul}
 use native.Mathlib.Omega.{arith}
-use borrow.Author.Count.{below-more}
 use lib.Arith.{digits-lt}
 use lib.ListN.{length, getD, set, take, length-set}
-use lib.Seq.{getD-set-same, getD-set-other, getD-take}
+use lib.Seq.{getD-set-other, getD-take}
+use Rattle.basics.proofs.Fill.{stored-more}
 use Rattle.scrambler.specs.Keys.{keyByte, keyNumber, placesFrom, AllBelow, sumAt, FollowsAt, FollowsByTwo, Holds, Extends, ExtendsByTwo, pairOf, Paired, Moved}
 use Rattle.scrambler.proofs.Places.{places-below, sum-same, follows-at, follows-by-two}
-use Rattle.scrambler.proofs.Follows.{level, level-follows, wordsFrom, words-squared, level-join, number-lt}
+use Rattle.scrambler.proofs.Follows.{level, level-follows, wordsFrom, words-squared, level-join, key-number-lt}
 
 -- ---- one number more
 
@@ -18,9 +18,7 @@ pub holds-none : {v : ℕ → ℕ} {l : List ℕ} → Holds v 0 l
 holds-none = record { at = λ i h. absurd (not-suc-le-zero h) }
 
 pub holds-more : {v : ℕ → ℕ} {l : List ℕ} {i x : ℕ} → Holds v i l → i < length l → x ≡ v i → Holds v (i + 1) (set l i x)
-holds-more {v} {l} {i} {x} h hi e = record {
-  at = below-more (λ k. getD (set l i x) k 0 ≡ v k) i (λ k hk. getD-set-other l i k x 0 (omega arith) ∙ h .at k hk) (getD-set-same l i x 0 hi ∙ e);
-}
+holds-more {v} {l} {i} {x} h hi e = record { at = stored-more v l i x (h .at) hi e }
 
 pub holds-less : {v : ℕ → ℕ} {l : List ℕ} {m n : ℕ} → m ≤ n → Holds v n l → Holds v m l
 holds-less le h = record { at = λ i hi. h .at i (omega arith) }
@@ -164,7 +162,7 @@ module _ (taps : ℕ) where
         }
 
   pub level-below : (n : ℕ) {l : List ℕ} → Holds (level taps n) 50 l → (i : ℕ) → i < 50 → getD l i 0 < 256 ^ n
-  level-below n h i hi = subst (λ (x : ℕ). x < 256 ^ n) (sym (h .at i hi)) (number-lt taps n (n * i))
+  level-below n h i hi = subst (λ (x : ℕ). x < 256 ^ n) (sym (h .at i hi)) (key-number-lt taps n (n * i))
 
   pub level-paired : (n : ℕ) {before after : List ℕ} → Paired (256 ^ n) before after → Holds (level taps n) 50 before → Holds (level taps (n + n)) 25 after
   level-paired n p h = record {

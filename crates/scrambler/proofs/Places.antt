@@ -17,8 +17,8 @@ use Rattle.scrambler.proofs.Square.{total, total-same, Follows}
 
 -- ---- places are below 25
 
-below-more : {n p : ℕ} {l : List ℕ} → p < n → AllBelow n l → AllBelow n (p ∷ l)
-below-more {n} {p} {l} h b = record { at = go }
+below-with : {n p : ℕ} {l : List ℕ} → p < n → AllBelow n l → AllBelow n (p ∷ l)
+below-with {n} {p} {l} h b = record { at = go }
   where
     go : (m : ℕ) → m < length (p ∷ l) → getD (p ∷ l) m 0 < n
     go zero k = h
@@ -34,7 +34,7 @@ places-below (suc n) i taps =
     let rest = placesFrom n (suc i) (taps / 2) in
     let below : AllBelow (i + suc n) rest =
     subst (λ (m : ℕ). AllBelow m rest) (suc-add i n ∙ sym (add-suc i n)) (places-below n (suc i) (taps / 2)) in
-    bit-cases (λ u. AllBelow (i + suc n) (withPlace u i rest)) below (below-more (omega arith) below) (taps % 2) (mod-lt taps (lit< tt))
+    bit-cases (λ u. AllBelow (i + suc n) (withPlace u i rest)) below (below-with (omega arith) below) (taps % 2) (mod-lt taps (lit< tt))
 
 -- ---- a loop that writes them
 

@@ -2,7 +2,7 @@
 -- sequences that follow it. So it holds for bytes and words of a bit sequence.
 use mathlib.Core.Path.{_≡_, refl, sym, ap, ap₂, _∙_}
 use Prim.Native.Nat.{ℕ, zero, suc, _+_, _*_, _^_, _<_}
-use native.Mathlib.Nat.{zero-mul, one-mul, mul-zero}
+use native.Mathlib.Nat.{zero-mul, one-mul, mul-add, mul-assoc, mul-left-comm}
 use native.Mathlib.Omega.{arith}
 use lib.Bits.{bitXor, xor-block, xor-lt}
 use lib.Pow.{pow-pos}
@@ -57,12 +57,6 @@ diagonal (suc n) f s =
 bit-twice : (u x : ℕ) → u < 2 → u * (u * x) ≡ u * x
 bit-twice u x h = bit-cases (λ (u : ℕ). u * (u * x) ≡ u * x) (zero-mul (0 * x) ∙ sym (zero-mul x)) (one-mul (1 * x)) u h
 
-bits-swap : (u w x : ℕ) → u < 2 → u * (w * x) ≡ w * (u * x)
-bits-swap u w x h =
-    bit-cases (λ (u : ℕ). u * (w * x) ≡ w * (u * x))
-    (zero-mul (w * x) ∙ sym (ap (λ (y : ℕ). w * y) (zero-mul x) ∙ mul-zero w))
-    (one-mul (w * x) ∙ sym (ap (λ (y : ℕ). w * y) (one-mul x))) u h
-
 -- the polynomial squared
 pub squared : (n : ℕ) (t v : ℕ → ℕ) → Bits t → Follows n t v → (k : ℕ) → v (k + n + n) ≡ total n (λ i. t i * v (k + i + i))
 squared n t v b f k =
@@ -74,7 +68,7 @@ squared n t v b f k =
     ∙ diagonal n (λ i j. t i * (t j * v (k + i + j)))
     (λ i j.
     let e : k + i + j ≡ k + j + i = omega arith in
-    bits-swap (t i) (t j) (v (k + i + j)) (b i) ∙ ap (λ (m : ℕ). t j * (t i * v m)) e)
+    mul-left-comm (t i) (t j) (v (k + i + j)) ∙ ap (λ (m : ℕ). t j * (t i * v m)) e)
     ∙ total-same n (λ i. t i * (t i * v (k + i + i))) (λ i. t i * v (k + i + i)) (λ i. bit-twice (t i) (v (k + i + i)) (b i))
 
 -- every second element follows the same recurrence
@@ -85,12 +79,12 @@ every-second n r t v b f k =
     ∙ total-same n (λ i. t i * v (r + 2 * k + i + i)) (λ i. t i * v (r + 2 * (k + i)))
     (λ i. let e : r + 2 * k + i + i ≡ r + 2 * (k + i) = omega arith in ap (λ (m : ℕ). t i * v m) e)
 
--- two numbers in one: a above, b of w bits below
 total-lt : (w n : ℕ) (g : ℕ → ℕ) → ((i : ℕ) → g i < 2 ^ w) → total n g < 2 ^ w
 unfolding total
 total-lt w zero g h = pow-pos w
 total-lt w (suc n) g h = xor-lt w (g 0) (total n (λ i. g (suc i))) (h 0) (total-lt w n (λ i. g (suc i)) (λ i. h (suc i)))
 
+-- two numbers in one: a above, b of w bits below
 total-pair : (w n : ℕ) (f g : ℕ → ℕ) → ((i : ℕ) → g i < 2 ^ w) → total n (λ i. f i * 2 ^ w + g i) ≡ total n f * 2 ^ w + total n g
 unfolding total
 total-pair w zero f g h = sym (ap (λ (x : ℕ). x + 0) (zero-mul (2 ^ w)))
@@ -98,15 +92,12 @@ total-pair w (suc n) f g h =
     ap (bitXor (f 0 * 2 ^ w + g 0)) (total-pair w n (λ i. f (suc i)) (λ i. g (suc i)) (λ i. h (suc i)))
     ∙ xor-block w (f 0) (total n (λ i. f (suc i))) (g 0) (total n (λ i. g (suc i))) (h 0) (total-lt w n (λ i. g (suc i)) (λ i. h (suc i)))
 
-bit-pair : (u a b m : ℕ) → u < 2 → u * (a * m + b) ≡ u * a * m + u * b
-bit-pair u a b m h =
-    bit-cases (λ (u : ℕ). u * (a * m + b) ≡ u * a * m + u * b)
-    (zero-mul (a * m + b) ∙ sym (ap₂ (λ (x y : ℕ). x * m + y) (zero-mul a) (zero-mul b) ∙ ap (λ (x : ℕ). x + 0) (zero-mul m)))
-    (one-mul (a * m + b) ∙ sym (ap₂ (λ (x y : ℕ). x * m + y) (one-mul a) (one-mul b))) u h
+pair-times : (u a b m : ℕ) → u * (a * m + b) ≡ u * a * m + u * b
+pair-times u a b m = mul-add u (a * m) b ∙ ap (λ (x : ℕ). x + u * b) (sym (mul-assoc u a m))
 
 pub together : (w n : ℕ) (t a b : ℕ → ℕ) → Bits t → ((i : ℕ) → b i < 2 ^ w) → Follows n t a → Follows n t b → Follows n t (λ k. a k * 2 ^ w + b k)
 together w n t a b bt hb fa fb k =
     ap₂ (λ (x y : ℕ). x * 2 ^ w + y) (fa k) (fb k)
     ∙ sym (total-same n (λ i. t i * (a (k + i) * 2 ^ w + b (k + i))) (λ i. t i * a (k + i) * 2 ^ w + t i * b (k + i))
-    (λ i. bit-pair (t i) (a (k + i)) (b (k + i)) (2 ^ w) (bt i))
+    (λ i. pair-times (t i) (a (k + i)) (b (k + i)) (2 ^ w))
     ∙ total-pair w n (λ i. t i * a (k + i)) (λ i. t i * b (k + i)) (λ i. bit-mul-lt (t i) (b (k + i)) (2 ^ w) (bt i) (hb (k + i))))

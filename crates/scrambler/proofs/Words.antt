@@ -21,7 +21,7 @@ use Rattle.scrambler.specs.Keys.{keyByte, keyNumber, placesFrom, Holds, 
 use Rattle.scrambler.proofs.Stages.{after-add}
 use Rattle.scrambler.proofs.Steps.{bytes-turn, bytes-end}
 use Rattle.scrambler.proofs.Laws.{scrambled-from-length, scrambled-append}
-use Rattle.scrambler.proofs.Follows.{byte-lt, wordsFrom}
+use Rattle.scrambler.proofs.Follows.{key-byte-lt, wordsFrom}
 use Rattle.scrambler.proofs.Holds.{holds-same, holds-front, words-next}
 
 -- the stages when i bytes of the key are out
@@ -35,20 +35,20 @@ stages-later taps i n =
 
 -- ---- the bytes of the words
 
-number-byte : (taps n i k : ℕ) → k < n → byteAt k (keyNumber taps n i) ≡ keyByte taps (i + k)
+key-number-byte : (taps n i k : ℕ) → k < n → byteAt k (keyNumber taps n i) ≡ keyByte taps (i + k)
 unfolding keyNumber
-number-byte taps zero i k h = absurd (not-suc-le-zero h)
-number-byte taps (suc n) i zero h = omega (arith, byte-lt taps i) ∙ ap (keyByte taps) (sym (add-zero i))
-number-byte taps (suc n) i (suc k) h =
-    let e : (keyNumber taps n (suc i) * 2 ^ 8 + keyByte taps i) / 256 ≡ keyNumber taps n (suc i) = omega (arith, byte-lt taps i) in
-    ap (byteAt k) e ∙ number-byte taps n (suc i) k (le-of-suc-le-suc h) ∙ ap (keyByte taps) (suc-add i k ∙ sym (add-suc i k))
+key-number-byte taps zero i k h = absurd (not-suc-le-zero h)
+key-number-byte taps (suc n) i zero h = omega (arith, key-byte-lt taps i) ∙ ap (keyByte taps) (sym (add-zero i))
+key-number-byte taps (suc n) i (suc k) h =
+    let e : (keyNumber taps n (suc i) * 2 ^ 8 + keyByte taps i) / 256 ≡ keyNumber taps n (suc i) = omega (arith, key-byte-lt taps i) in
+    ap (byteAt k) e ∙ key-number-byte taps n (suc i) k (le-of-suc-le-suc h) ∙ ap (keyByte taps) (suc-add i k ∙ sym (add-suc i k))
 
 words-byte : (taps at : ℕ) (words : List ℕ) → Holds (wordsFrom taps at) 50 words → (i : ℕ) → i < 400 → getD (bytesOf words) i 0 ≡ keyByte taps (at + i)
 words-byte taps at words h i hi =
     let e : i ≡ 8 * (i / 8) + i % 8 = omega arith in
     let p : at + 8 * (i / 8) + i % 8 ≡ at + i = omega arith in
     ap (λ (j : ℕ). getD (bytesOf words) j 0) e ∙ bytes-at words (i / 8) (i % 8) (mod-lt i (lit< tt))
-    ∙ ap (byteAt (i % 8)) (h .at (i / 8) (omega arith)) ∙ number-byte taps 8 (at + 8 * (i / 8)) (i % 8) (mod-lt i (lit< tt)) ∙ ap (keyByte taps) p
+    ∙ ap (byteAt (i % 8)) (h .at (i / 8) (omega arith)) ∙ key-number-byte taps 8 (at + 8 * (i / 8)) (i % 8) (mod-lt i (lit< tt)) ∙ ap (keyByte taps) p
 
 -- ---- `add_words`: i bytes are done
 

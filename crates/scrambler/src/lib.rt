@@ -21,10 +21,11 @@ pub fn are_taps(taps: u32) -> bool
 pub fn scramble(taps: u32, bytes: &mut [u8])
     ensures { λ _. ⌜ now (bytes .exit) ≡ scrambled taps (now (bytes .entry)) ⌝ }
 {
-    let mut all = [0usize; 25];
-    let count = sums::write_places(taps, &mut all);
-    let places = &all[..count];
+    let mut buffer = [0usize; 25];
+    let count = sums::write_places(taps, &mut buffer);
+    let places = &buffer[..count];
     let mut words = levels::first_words(taps, places);
+    // A stretch of 400 bytes takes 50 words; the next 50 are made only where more bytes follow.
     let mut at = 0;
     while 400 < bytes.len() - at {
         add_words(&words[..50], &mut bytes[at..at + 400]);

@@ -8,7 +8,7 @@ use borrow.Rule.Slice.PartMut.{same-len-mid}
 use Rattle.basics.specs.Lists.{zeros}
 use Rattle.lent.proofs.Written.{written-whole}
 use Rattle.crc.specs.Crc.{crc-32}
-use Rattle.crc.proofs.Folding.{rest, fold-turn}
+use Rattle.crc.proofs.Folding.{to-the-end, fold-turn}
 use Rattle.crc.proofs.crc_32.Statement.{statement}
 use Rattle.crc.proofs.crc_32.Tie as tie
 
@@ -88,7 +88,7 @@ returns-2 : tie.Need-returns-2 Inv-loop μ-loop
 unfolding crc-32
 returns-2 c =
     let at = c .before .before .before .before .loop in
-    c .by-bits2 .ensures .1 ∙ ap crc-32 (rest (at .bytes) 1908 (at .i) (at .inv .2)) ∙ at .inv .3
+    c .by-bits2 .ensures .1 ∙ ap crc-32 (to-the-end (at .bytes) 1908 (at .i) (at .inv .2)) ∙ at .inv .3
 
 pub crc-32-spec : {M : Type 1} → statement M
 crc-32-spec =

@@ -1,4 +1,4 @@
--- "first" is looked at before the position, since nearly all records have it; the definition names the position first.
+-- The code asks in the other order than the definition.
 use mathlib.Core.Path.{_≡_, refl}
 use mathlib.Core.Bool.{Bool, true, false, _||_}
 use borrow.Author.Tests.{eq-eqb, ne-eqb}

@@ -22,8 +22,8 @@ slice-aggregate-write-places c = search needs
 write-places-requires : tie.Need-write-places-requires Inv-loop μ-loop
 write-places-requires c κs = search needs
 
-array-share-prefix-all : tie.Need-array-share-prefix-all Inv-loop μ-loop
-array-share-prefix-all c = search needs
+array-share-prefix-buffer : tie.Need-array-share-prefix-buffer Inv-loop μ-loop
+array-share-prefix-buffer c = search needs
 
 slice-aggregate-places : tie.Need-slice-aggregate-places Inv-loop μ-loop
 slice-aggregate-places c =
@@ -137,7 +137,7 @@ scramble-spec =
     μ-loop
     slice-aggregate-write-places
     write-places-requires
-    array-share-prefix-all
+    array-share-prefix-buffer
     slice-aggregate-places
     first-words-requires
     loop-holds

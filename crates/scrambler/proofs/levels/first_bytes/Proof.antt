@@ -1,6 +1,6 @@
 -- Byte by byte, with the stages that come next.
 use mathlib.Core.Path.{_≡_, refl, sym, ap, _∙_}
-use Prim.Native.Nat.{_*_, _-_, _<_, _≤_}
+use Prim.Native.Nat.{_*_, _-_, _≤_}
 use lib.Dec.{lit<}
 use lib.ListN.{length, length-set}
 use borrow.Author.Needs.{needs}
