@@ -33,6 +33,7 @@ bytes-of-number l h i (suc n) =
     let high : (getD l i 0 + 256 * rest) / 256 ≡ rest = omega arith in
     ap₂ (λ (x : ℕ) (xs : List ℕ). x ∷ xs) low (ap (lowFirst n) high ∙ bytes-of-number l h (suc i) n)
 
+-- the bytes of the number that stands there, and what stands behind them
 pub number-then : (l : List ℕ) → Bytes l → (i n : ℕ) → i + n ≤ length l → lowFirst n (numberAt i n l) ++ drop (i + n) l ≡ drop i l
 number-then l b i n h = ap (λ (t : List ℕ). t ++ drop (i + n) l) (bytes-of-number l b i n) ∙ entries-then l i n h
 
