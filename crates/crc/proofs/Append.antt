@@ -12,25 +12,25 @@ use Rattle.field.specs.Field.{twice}
 use Rattle.field.proofs.Double.{twice-lt}
 use Rattle.division.proofs.Register.{plus-zeros}
 use Rattle.crc.specs.Crc.{bits, messageBits, crc32Polynomial, crc-32}
-use Rattle.crc.specs.Register.{bitSteps, doubled, later}
+use Rattle.crc.specs.Register.{bitSteps, doubled, raised}
 use Rattle.crc.proofs.Number.{Bits, bit-step}
 use Rattle.crc.proofs.Bytes.{doubled-xor, bit-steps-append, message-bits, zeros-bits, crc-bits, crc-lt}
 use Rattle.crc.proofs.Linear.{message-length, bit-steps-xor}
 
 -- ---- a register times a power of x
 
-pub later-add : (j m r : ℕ) → later (j + m) r ≡ later m (later j r)
+pub raised-add : (j m r : ℕ) → raised (j + m) r ≡ raised m (raised j r)
 unfolding doubled
-later-add zero m r = ap (λ (n : ℕ). later n r) (zero-add m)
-later-add (suc j) m r = ap (λ (n : ℕ). later n r) (suc-add j m) ∙ later-add j m (twice 32 crc32Polynomial r)
+raised-add zero m r = ap (λ (n : ℕ). raised n r) (zero-add m)
+raised-add (suc j) m r = ap (λ (n : ℕ). raised n r) (suc-add j m) ∙ raised-add j m (twice 32 crc32Polynomial r)
 
-pub later-lt : (j r : ℕ) → r < 2 ^ 32 → later j r < 2 ^ 32
+pub raised-lt : (j r : ℕ) → r < 2 ^ 32 → raised j r < 2 ^ 32
 unfolding doubled
-later-lt zero r h = h
-later-lt (suc j) r h = later-lt j (twice 32 crc32Polynomial r) (twice-lt 32 crc32Polynomial r refl h)
+raised-lt zero r h = h
+raised-lt (suc j) r h = raised-lt j (twice 32 crc32Polynomial r) (twice-lt 32 crc32Polynomial r refl h)
 
-pub later-xor : (j a b : ℕ) → a < 2 ^ 32 → b < 2 ^ 32 → later j (bitXor a b) ≡ bitXor (later j a) (later j b)
-later-xor j a b ha hb = doubled-xor 31 crc32Polynomial refl j a b ha hb
+pub raised-xor : (j a b : ℕ) → a < 2 ^ 32 → b < 2 ^ 32 → raised j (bitXor a b) ≡ bitXor (raised j a) (raised j b)
+raised-xor j a b ha hb = doubled-xor 31 crc32Polynomial refl j a b ha hb
 
 -- ---- bits go into a register
 
@@ -38,14 +38,14 @@ abbrev steps : ℕ → List ℕ → ℕ
 steps r bs = bitSteps 32 crc32Polynomial r bs
 
 -- those that are 0 only double it
-steps-zeros : (j r : ℕ) → steps r (zeros j) ≡ later j r
+steps-zeros : (j r : ℕ) → steps r (zeros j) ≡ raised j r
 unfolding bitSteps doubled
 steps-zeros zero r = refl
 steps-zeros (suc j) r =
     ap (λ (x : ℕ). steps x (zeros j)) (bit-step 31 crc32Polynomial r 0 ∙ ap (twice 32 crc32Polynomial) (xor-zero-r r))
     ∙ steps-zeros j (twice 32 crc32Polynomial r)
 
-steps-parts : (bs : List ℕ) (r : ℕ) → Bits bs → r < 2 ^ 32 → steps r bs ≡ bitXor (later (length bs) r) (steps 0 bs)
+steps-parts : (bs : List ℕ) (r : ℕ) → Bits bs → r < 2 ^ 32 → steps r bs ≡ bitXor (raised (length bs) r) (steps 0 bs)
 steps-parts bs r hb h =
     let n = length bs in
     ap₂ steps (sym (xor-zero-r r)) (sym (plus-zeros n bs (le-refl n)))
@@ -67,9 +67,9 @@ crc-steps : (m : List ℕ) → crc-32 m ≡ steps 0 (messageBits m)
 unfolding crc-32
 crc-steps m = crc-bits 31 crc32Polynomial refl m
 
-pub crc-append : (m n : List ℕ) → crc-32 (m ++ n) ≡ bitXor (later (8 * length n) (crc-32 m)) (crc-32 n)
+pub crc-append : (m n : List ℕ) → crc-32 (m ++ n) ≡ bitXor (raised (8 * length n) (crc-32 m)) (crc-32 n)
 crc-append m n =
     crc-steps (m ++ n) ∙ ap (steps 0) (message-append m n) ∙ bit-steps-append 32 crc32Polynomial 0 (messageBits m) (messageBits n)
     ∙ ap (λ (r : ℕ). steps r (messageBits n)) (sym (crc-steps m))
     ∙ steps-parts (messageBits n) (crc-32 m) (message-bits n) (crc-32-lt m)
-    ∙ ap₂ (λ (j y : ℕ). bitXor (later j (crc-32 m)) y) (message-length n) (sym (crc-steps n))
+    ∙ ap₂ (λ (j y : ℕ). bitXor (raised j (crc-32 m)) y) (message-length n) (sym (crc-steps n))

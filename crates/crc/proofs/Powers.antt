@@ -10,9 +10,9 @@ use Rattle.field.specs.Field.{twice}
 use Rattle.field.proofs.Basis.{agree}
 use Rattle.field.proofs.Double.{twice-xor}
 use Rattle.crc.specs.Crc.{crc32Polynomial}
-use Rattle.crc.specs.Register.{doubled, later}
+use Rattle.crc.specs.Register.{doubled, raised}
 use Rattle.crc.proofs.Bytes.{twice-small}
-use Rattle.crc.proofs.Append.{later-lt, later-xor}
+use Rattle.crc.proofs.Append.{raised-lt, raised-xor}
 
 abbrev double : ℕ → ℕ
 double y = twice 32 crc32Polynomial y
@@ -20,28 +20,28 @@ double y = twice 32 crc32Polynomial y
 -- the sum of a register times x^(8 e), over the numbers e of a list
 abbrev total : List ℕ → ℕ → ℕ
 total [] y = 0
-total (e ∷ es) y = bitXor (later (8 * e) y) (total es y)
+total (e ∷ es) y = bitXor (raised (8 * e) y) (total es y)
 
 total-lt : (es : List ℕ) (y : ℕ) → y < 2 ^ 32 → total es y < 2 ^ 32
 total-lt [] y h = pow-pos 32
-total-lt (e ∷ es) y h = xor-lt 32 (later (8 * e) y) (total es y) (later-lt (8 * e) y h) (total-lt es y h)
+total-lt (e ∷ es) y h = xor-lt 32 (raised (8 * e) y) (total es y) (raised-lt (8 * e) y h) (total-lt es y h)
 
 total-xor : (es : List ℕ) (a b : ℕ) → a < 2 ^ 32 → b < 2 ^ 32 → total es (bitXor a b) ≡ bitXor (total es a) (total es b)
 total-xor [] a b ha hb = refl
 total-xor (e ∷ es) a b ha hb =
-    ap₂ bitXor (later-xor (8 * e) a b ha hb) (total-xor es a b ha hb) ∙ xor-cross (later (8 * e) a) (later (8 * e) b) (total es a) (total es b)
+    ap₂ bitXor (raised-xor (8 * e) a b ha hb) (total-xor es a b ha hb) ∙ xor-cross (raised (8 * e) a) (raised (8 * e) b) (total es a) (total es b)
 
-later-double : (j y : ℕ) → later j (double y) ≡ double (later j y)
+raised-double : (j y : ℕ) → raised j (double y) ≡ double (raised j y)
 unfolding doubled
-later-double zero y = refl
-later-double (suc j) y = later-double j (double y)
+raised-double zero y = refl
+raised-double (suc j) y = raised-double j (double y)
 
 total-double : (es : List ℕ) (y : ℕ) → y < 2 ^ 32 → total es (double y) ≡ double (total es y)
 unfolding twice
 total-double [] y h = refl
 total-double (e ∷ es) y h =
-    ap₂ bitXor (later-double (8 * e) y) (total-double es y h)
-    ∙ sym (twice-xor 32 crc32Polynomial (later (8 * e) y) (total es y) (later-lt (8 * e) y h) (total-lt es y h))
+    ap₂ bitXor (raised-double (8 * e) y) (total-double es y h)
+    ∙ sym (twice-xor 32 crc32Polynomial (raised (8 * e) y) (total es y) (raised-lt (8 * e) y h) (total-lt es y h))
 
 at-powers : (es : List ℕ) → total es 1 ≡ 0 → (j : ℕ) → j < 32 → total es (2 ^ j) ≡ 0
 unfolding twice
@@ -51,9 +51,9 @@ at-powers es e (suc j) h =
     ∙ total-double es (2 ^ j) (pow-lt (lt-trans (le-refl (suc j)) h)) ∙ ap double (at-powers es e j (lt-trans (le-refl (suc j)) h))
 
 -- what keeps sums and is 0 at the powers of two is 0
-pub divided : (d : ℕ) (es : List ℕ) → total (d ∷ es) 1 ≡ 0 → (y : ℕ) → y < 2 ^ 32 → later (8 * d) y ≡ total es y
+pub divided : (d : ℕ) (es : List ℕ) → total (d ∷ es) 1 ≡ 0 → (y : ℕ) → y < 2 ^ 32 → raised (8 * d) y ≡ total es y
 divided d es e y h =
-    xor-zero-eq (later (8 * d) y) (total es y)
+    xor-zero-eq (raised (8 * d) y) (total es y)
     (agree 32 (total (d ∷ es)) (λ y. 0) (total-xor (d ∷ es)) (λ a b ha hb. refl) (at-powers (d ∷ es) e) y h)
 
 -- the powers that the code goes by

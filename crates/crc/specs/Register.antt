@@ -27,9 +27,9 @@ doubled n polynomial zero register = register
 doubled n polynomial (suc k) register = doubled n polynomial k (twice n polynomial register)
 
 -- a register of the CRC-32 times x^j
-abbrev pub later : ℕ → ℕ → ℕ
-later j register = doubled 32 crc32Polynomial j register
+abbrev pub raised : ℕ → ℕ → ℕ
+raised j register = doubled 32 crc32Polynomial j register
 
 -- the CRC-32 of a message of n bytes, all 0 but the eight of this number, from index at on
 abbrev pub numberSum : ℕ → ℕ → ℕ → ℕ
-numberSum n at number = later (8 * (n - (at + 8))) (crc-32 (lowFirst 8 number))
+numberSum n at number = raised (8 * (n - (at + 8))) (crc-32 (lowFirst 8 number))

@@ -63,7 +63,8 @@ pub fn crc_16(message: &[u8]) -> u16
 // Adds a number's eight bytes to those from index at on.
 fn add_number(bytes: &mut [u8], at: usize, number: u64)
     requires { ⌜ (8 ≤ at) × (at + 8 ≤ length (now bytes)) ⌝ }
-    ensures { λ _. ⌜ crc-32 (drop 8 (now (bytes .exit))) ≡ bitXor (crc-32 (drop 8 (now (bytes .entry)))) (numberSum (length (now (bytes .entry))) at number) ⌝ }
+    ensures { λ _. ⌜ crc-32 (drop 8 (now (bytes .exit)))
+        ≡ bitXor (crc-32 (drop 8 (now (bytes .entry)))) (numberSum (length (now (bytes .entry))) at number) ⌝ }
 {
     let sum = lent::numbers::number_at(bytes, at) ^ number;
     lent::numbers::write_number(bytes, at, sum);

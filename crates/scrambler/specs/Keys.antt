@@ -69,4 +69,5 @@ pub record Moved (before after : List ℕ) : Type 0 where
 
 -- 50 words of a key, from whichever byte on, are added to bytes
 pub record Added (words before sum : List ℕ) : Type 0 where
-  pub scrambles : (taps at : ℕ) → Holds (λ k. keyNumber taps 8 (at + 8 * k)) 50 words → sum ≡ scrambledFrom taps (after taps (8 * at) firstStages) before
+  pub scrambles : (taps at : ℕ) → Holds (λ k. keyNumber taps 8 (at + 8 * k)) 50 words
+      → sum ≡ scrambledFrom taps (after taps (8 * at) firstStages) before
