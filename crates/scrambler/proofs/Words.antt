@@ -134,11 +134,11 @@ pub record Scrambling (taps : ℕ) (places before : List ℕ) (at : ℕ) (bytes 
   pub key : Holds (wordsFrom taps at) 50 words
   pub so-far : take at bytes ++ scrambledFrom taps (stagesAt taps at) (drop at bytes) ≡ scrambled taps before
 
-pub scrambling-start : {taps : ℕ} {places bytes words : List ℕ} → places ≡ placesFrom 25 0 taps → length words ≡ 100 → Holds (λ k. keyNumber taps 8 (8 * k)) 50 words
-    → Scrambling taps places bytes 0 bytes words
+pub scrambling-start : {taps : ℕ} {places bytes words : List ℕ} → places ≡ placesFrom 25 0 taps → length words ≡ 100
+    → Holds (λ k. keyNumber taps 8 (8 * k)) 50 words → Scrambling taps places bytes 0 bytes words
 unfolding scrambled after
-scrambling-start {taps} set long h = record {
-  places-are = set;
+scrambling-start {taps} places-are long h = record {
+  places-are = places-are;
   inside = omega arith;
   same = refl;
   long = long;
@@ -168,5 +168,6 @@ module _ {taps at : ℕ} {places before bytes words : List ℕ} (s : Scrambling 
       → putMid at k bytes sum ≡ scrambled taps before
   scrambling-end k {sum} e added =
       let there = holds-front 50 (s .key) in
-      sym (bytes-end taps (stagesAt taps (at + k)) (putMid at k bytes sum) (at + k) (omega (arith, same-len-mid at k bytes sum (added-length taps at there added))))
+      let all : length (putMid at k bytes sum) ≡ length bytes = same-len-mid at k bytes sum (added-length taps at there added) in
+      sym (bytes-end taps (stagesAt taps (at + k)) (putMid at k bytes sum) (at + k) (omega arith))
       ∙ stretch taps at k bytes (take 50 words) sum (omega arith) there added ∙ s .so-far

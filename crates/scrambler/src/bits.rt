@@ -3,6 +3,9 @@ ghost use mathlib.Core.Path.{_≡_};
 ghost use Prim.Native.Nat.{_<_, _^_};
 ghost use Rattle.scrambler.specs.Scrambler.{next, after, key};
 
+// The stages at the start of a frame (Table 2-17): s(0) to s(2) are 1.
+pub const FIRST_STAGES: u32 = 7;
+
 // The stages one bit further: the new bit is the parity of the count of ones in the stages masked by the taps.
 fn step(taps: u32, stages: u32) -> u32
     requires { ⌜ stages < 2 ^ 25 ⌝ }

@@ -12,7 +12,7 @@ fn first_bytes(taps: u32) -> [u64; 100]
     ensures { λ r. ⌜ (length r ≡ 100) × Holds (keyByte taps) 25 r ⌝ }
 {
     let mut numbers = [0u64; 100];
-    let mut stages: u32 = 7;
+    let mut stages = bits::FIRST_STAGES;
     let mut i = 0;
     while i < 25 {
         let key = bits::key_byte(taps, stages);
