@@ -1,5 +1,6 @@
 -- Lists of numbers, as every crate speaks of them: what a buffer holds, or the coefficients of a polynomial.
 use mathlib.Core.Bool.{Bool, true, false, _&&_}
+use mathlib.Core.Option.{Option, none, some}
 use mathlib.Core.List.{List, [], _∷_}
 use Prim.Native.Nat.{ℕ, zero, suc, _<_}
 use lib.Dec.{eqb}
@@ -30,3 +31,8 @@ same (x ∷ xs) (y ∷ ys) = eqb x y && same xs ys
 abbrev pub allBelow : ℕ → (ℕ → Bool) → Bool
 allBelow zero f = true
 allBelow (suc n) f = f n && allBelow n f
+
+-- whether there is one
+abbrev pub isSome : {A : Type 0} → Option A → Bool
+isSome none = false
+isSome (some x) = true

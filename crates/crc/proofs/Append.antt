@@ -6,12 +6,13 @@ use native.Mathlib.Nat.{zero-add, suc-add, le-refl}
 use lib.Pow.{pow-pos}
 use lib.Bits.{bitXor, xor-zero-r}
 use lib.ListN.{length}
+use Rattle.basics.specs.Numbers.{bits}
 use Rattle.basics.specs.Lists.{zeros}
 use Rattle.basics.proofs.Lists.{zeros-length}
 use Rattle.field.specs.Field.{twice}
 use Rattle.field.proofs.Double.{twice-lt}
 use Rattle.division.proofs.Register.{plus-zeros}
-use Rattle.crc.specs.Crc.{bits, messageBits, crc32Polynomial, crc-32}
+use Rattle.crc.specs.Crc.{messageBits, crc32Polynomial, crc-32}
 use Rattle.crc.specs.Register.{bitSteps, doubled, raised}
 use Rattle.crc.proofs.Number.{Bits, bit-step}
 use Rattle.crc.proofs.Bytes.{doubled-xor, bit-steps-append, message-bits, zeros-bits, crc-bits, crc-lt}

@@ -11,13 +11,14 @@ use lib.Pow.{pow-pos, pow-mono, mod-pow-add, shl-lt, pow-add}
 use lib.Bits.{bitXor, xor-zero-r, xor-shifted}
 use lib.Seq.{drop-cons}
 use lib.ListN.{length, getD, drop, drop-of-length-le}
+use Rattle.basics.specs.Numbers.{bits, number}
 use Rattle.basics.specs.Lists.{zeros}
 use Rattle.basics.proofs.Xor.{xor-assoc, xor-shl}
 use Rattle.basics.proofs.Lists.{zeros-length}
 use Rattle.field.specs.Field.{twice}
 use Rattle.field.proofs.Double.{twice-xor, twice-lt}
 use Rattle.division.proofs.Register.{check-feed}
-use Rattle.crc.specs.Crc.{bits, number, messageBits, crc, crc16Polynomial, crc-16}
+use Rattle.crc.specs.Crc.{messageBits, crc, crc16Polynomial, crc-16}
 use Rattle.crc.specs.Register.{bitStep, bitSteps, byteStep, doubled}
 use Rattle.crc.proofs.Number.{times, Bits, bits-length, bits-are-bits, append-bits, feed-number, bit-step, with-bit-lt, bit-steps-lt}
 

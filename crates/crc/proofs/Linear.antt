@@ -7,12 +7,13 @@ use native.Mathlib.Omega.{arith}
 use lib.Pow.{pow-pos}
 use lib.Bits.{bitXor, xor-shr, xor-mod}
 use lib.ListN.{length, length-append}
+use Rattle.basics.specs.Numbers.{bits}
 use Rattle.basics.proofs.Xor.{xor-shl, xor-cross}
 use Rattle.field.specs.Field.{twice}
 use Rattle.field.proofs.Double.{twice-xor}
 use Rattle.division.specs.Division.{plus}
 use Rattle.division.proofs.Linear.{plus-append}
-use Rattle.crc.specs.Crc.{bits, messageBits, crc}
+use Rattle.crc.specs.Crc.{messageBits, crc}
 use Rattle.crc.specs.Register.{bitStep, bitSteps}
 use Rattle.crc.proofs.Number.{Bits, bits-length, bit-step, with-bit-lt, bit-step-lt}
 use Rattle.crc.proofs.Bytes.{crc-bits, message-bits}

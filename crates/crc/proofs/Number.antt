@@ -10,13 +10,13 @@ use lib.Arith.{digits-lt}
 use lib.Pow.{pow-pos, mod-pow-add, high, split, shl-lt}
 use lib.Bits.{bitXor, xor-lt, xor-block, xor-comm, xor-self, xor-zero-r}
 use lib.ListN.{length, length-append}
+use Rattle.basics.specs.Numbers.{bits, number}
 use Rattle.field.specs.Field.{twice}
 use Rattle.basics.proofs.Xor.{bit-mul-lt}
 use Rattle.field.proofs.Double.{twice-lt}
 use Rattle.division.specs.Division.{plus, scale}
 use Rattle.division.specs.Register.{step, feed}
 use Rattle.division.proofs.Register.{plus-length, scale-length, step-length}
-use Rattle.crc.specs.Crc.{bits, number}
 use Rattle.crc.specs.Register.{bitStep, bitSteps}
 
 -- the product of two bits

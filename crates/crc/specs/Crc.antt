@@ -1,27 +1,17 @@
 -- The two check sums of a frame (2.6.3.6.1; 01, "The frame on the wire"). Each is the remainder of the message times x^n by a polynomial of degree n over
 -- bits: it starts from zero, takes the bytes in order, the top bit of each first, and adds nothing at the end.
 use mathlib.Core.List.{List, [], _∷_, _++_}
-use Prim.Native.Nat.{ℕ, zero, suc, _+_, _*_, _/_, _%_, _^_}
-use lib.ListN.{length}
+use Prim.Native.Nat.{ℕ, _*_}
+use Rattle.basics.specs.Numbers.{bits, number}
 use Rattle.division.specs.Division.{check}
-
--- the n low bits of a number, the highest first
-unfoldable pub bits : ℕ → ℕ → List ℕ
-bits zero x = []
-bits (suc n) x = (x / 2 ^ n % 2) ∷ bits n x
-
--- the number with these bits, the highest first
-unfoldable pub number : List ℕ → ℕ
-number [] = 0
-number (b ∷ bs) = b * 2 ^ length bs + number bs
 
 -- the bits of a message's bytes, in the order in which they are taken
 unfoldable pub messageBits : List ℕ → List ℕ
 messageBits [] = []
 messageBits (byte ∷ bytes) = bits 8 byte ++ messageBits bytes
 
--- The check sum of n bits by a polynomial of degree n. A polynomial is a number, whose bit k is the coefficient of x^k; the product of two bits is that of
--- numbers.
+-- The check sum of n bits by a polynomial of degree n. A polynomial is a number, whose binary digit k is the coefficient of x^k; the product of two bits
+-- is that of numbers.
 unfoldable pub crc : ℕ → ℕ → List ℕ → ℕ
 crc n polynomial message = number (check (λ a b. a * b) (bits n polynomial) (messageBits message))
 

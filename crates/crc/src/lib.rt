@@ -2,6 +2,7 @@
 //
 // The polynomial of the CRC-32 divides x^984 + x^888 + x^736 + x^672 + x^512 + x^368 + x^184 + 1, whose powers are of whole bytes. So the first eight bytes
 // of a message may be added to those that begin 12, 31, 39, 59, 77, 100 and 123 bytes later, and left out. The last 124 bytes are divided bit by bit.
+use basics::sizes;
 ghost use mathlib.Core.Path.{_≡_};
 ghost use Prim.Native.Nat.{_+_, _/_, _^_, _≤_, _<_};
 ghost use lib.Bits.{bitXor};
@@ -89,10 +90,10 @@ fn fold(bytes: &mut [u8])
 pub fn crc_32(message: &[u8]) -> u32
     ensures { λ r. ⌜ r ≡ crc-32 (now (message .entry)) ⌝ }
 {
-    if message.len() != 1908 {
+    if message.len() != sizes::AREA_SIZE {
         return by_bits(message, POLYNOMIAL_32) as u32;
     }
-    let mut bytes = [0u8; 1908];
+    let mut bytes = [0u8; sizes::AREA_SIZE];
     lent::write_at(&mut bytes, 0, message);
     let mut i = 0;
     // 223 turns leave 124 bytes, too few for one more.

@@ -1,14 +1,12 @@
 -- DEMAND 3 holds of every history of the calls.
 use mathlib.Core.Path.{_≡_}
-use mathlib.Core.Option.{none}
 use mathlib.Core.List.{List}
 use Prim.Native.Nat.{ℕ}
 use native.Mathlib.Nat.{zero-add}
-use Rattle.link.specs.Link.{ArePackets, Piece, empty, putsOf, framesOf, fresh}
-use Rattle.link.specs.Demand3.{deliver}
+use Rattle.link.specs.Link.{ArePackets, Piece, empty}
+use Rattle.link.proofs.Machine.{putsOf, framesOf, fresh, deliver}
 use Rattle.link.proofs.Demand3.{demand3}
-use Rattle.link.proofs.Sender.{run}
-use Rattle.packing.specs.Filling.{load}
+use Rattle.packing.proofs.Filling.{load}
 use Rattle.sender.specs.Put.{freshSender}
 use Rattle.sender.proofs.Stands.{fresh-stands}
 use Rattle.receiver.specs.Applying.{freshReceiver}
@@ -33,4 +31,4 @@ demand3-holds taps queue hold calls fates h =
     learns : learned fates ≡ deliver (marks fates) 0 fresh pieces
     learns =
         hears taps (h .allowed) (marks fates) fates 0 freshReceiver hold fresh (framesSent calls) pieces (λ k. rw zero-add) (fresh-holds hold (h .hold-size)) (sound .carried)
-        (run load 0 none empty (granted calls) tt tt allowed .filled) (h .came)
+        (h .came)

@@ -1,64 +1,73 @@
 -- A worked history, for all allowed taps, all header fields that may be sent and all first contents of the buffers. An empty packet is refused with 4.
 -- Packets of 1, 1,904, 1 and 1 bytes are taken, and four frames are sent. Frame 0 arrives, with the first packet and all of the second but its last byte;
 -- frame 1 is missing, with that byte; frame 2 comes as zeros and is refused; frame 3 arrives. The first packet and the last come out, and two frames are
--- counted as missed before frame 3.
-use mathlib.Core.Path.{_≡_, refl, ap, _∙_}
+-- counted as missed before frame 3. Each clause of demand 3 says its part of this, so that none can go unseen; that the zeros are refused is `zeros-refused`
+-- in Consequences2.antt.
+use mathlib.Core.Path.{_≡_, ap, fun-ext, _∙_}
 use mathlib.Core.Bool.{true}
-use mathlib.Core.List.{List, [], _∷_, map}
-use Prim.Native.Nat.{ℕ, zero, suc, _≤_}
+use mathlib.Core.List.{List, [], _∷_, _++_, map}
+use Prim.Native.Nat.{ℕ, zero, suc, _≤_, _<_}
 use native.Mathlib.Omega.{arith}
-use lib.ListN.{length, replicate, take}
+use lib.ListN.{length, replicate}
 use borrow.Author.Tests.{eq-eqb}
 use Rattle.basics.specs.Lists.{zeros, Bytes}
-use Rattle.lent.specs.Outcome.{by}
+use Rattle.basics.specs.Sizes.{frameSize, queueSize, holdSize, listSize}
+use Rattle.lent.specs.Refusals.{firstOf, by}
 use Rattle.scrambler.specs.Scrambler.{tapsAllowed}
 use Rattle.header.specs.Header.{fieldsFit}
 use Rattle.header.specs.declared.Fields.{Fields}
-use Rattle.frame.specs.Frame.{preamble}
-use Rattle.link.specs.Link as link
-use Rattle.link.specs.Link.{Packet, Piece, empty, Call, framesOf}
-use Rattle.link.specs.Ledger.{ledger, came}
-use Rattle.link.specs.Demand3.{packetsOf, missedOf}
-use Rattle.link.specs.Store.{layout, parse, isWhole, packetsIn}
-use Rattle.packing.specs.Filling.{fillWaiting, load}
+use Rattle.link.specs.Link.{Packet, Piece, Answer, refused, empty}
+use Rattle.link.proofs.Machine.{framesOf}
+use Rattle.link.specs.Ledger.{Mark, ledger, unsent, came, gaps}
+use Rattle.link.specs.Demand3.{packetsOf, missedOf, packetOf}
+use Rattle.link.specs.Store.{layout}
+use Rattle.link.specs.Parsing.{parse, isWhole, packetsIn}
+use Rattle.packing.specs.Filling.{fillWaiting}
+use Rattle.packing.proofs.Filling.{load}
 use Rattle.marks.specs.Queue.{isRingWhole}
 use Rattle.sender.specs.Put.{freshSender, putRefusal, PutOutcome}
 use Rattle.sender.specs.declared.PutAnswer.the-variants as putting
 use Rattle.sender.proofs.Stands.{fresh-stands}
 use Rattle.receiver.specs.Applying.{freshReceiver}
-use Rattle.demands.specs.Demand3.{SenderCall, callPut, SenderCalls, framesSent, piecesCarried, Fate, marks, learned, History, Promise}
-use Rattle.demands.proofs.Sender.{fresh-sound, all-carried}
+use Rattle.demands.specs.Demand3.{SenderCall, callPut, SenderCalls, framesSent, queueLeft, piecesCarried, Fate, marks, learned, History, Promise}
+use Rattle.demands.proofs.Sender.{granted, fresh-sound, all-carried}
 use Rattle.demands.proofs.Demand3.{demand3-holds}
-use Rattle.demands.proofs.Runs.{Way, lose, pass, spoil, run, fatesOf, fresh-ready, all-yes, all-met, few-limit}
+use Rattle.demands.proofs.Histories.{Input, givePacket, askFrame, Way, lose, pass, spoil, fatesOf, wayMarks, marked-so, history-of}
+use Rattle.demands.proofs.Runs.{run, fresh-ready, all-yes}
 
-abbrev long : Packet
+abbrev pub long : Packet
 long = replicate 1904 0x55
 
-abbrev granted : List Call
-granted =
-    link.put (0xAA ∷ []) ∷ link.put long ∷ link.next ∷ link.next ∷ link.put (0xBB ∷ []) ∷ link.next ∷ link.put (0xCC ∷ []) ∷ link.next ∷ []
+pub same-bytes : (byte : ℕ) → byte < 256 → (n : ℕ) → Bytes (replicate n byte)
+same-bytes byte small zero = tt
+same-bytes byte small (suc n) = (small, same-bytes byte small n)
 
-pub zeros-differ : take 9 (zeros 2081) ≡ preamble → ⊥
-zeros-differ e = let z : _≡_ {A = ℕ} 0 0x77 = cc in omega arith
+module _ (taps : ℕ) (allowed : tapsAllowed taps ≡ true) (fields : Fields) (fit : fieldsFit fields ≡ true) (out : List ℕ) (out-size : frameSize ≤ length out)
+    (list : List ℕ) (list-size : listSize ≤ length list) (queue : List ℕ) (queue-bytes : Bytes queue) (queue-size : length queue ≡ queueSize)
+    (hold : List ℕ) (hold-size : length hold ≡ holdSize) where
+  abbrev inputs : List Input
+  inputs =
+      givePacket (0xAA ∷ []) (omega arith, tt)
+      ∷ givePacket long (same-bytes 0x55 (omega arith) 1904)
+      ∷ askFrame fields out
+      ∷ askFrame fields out
+      ∷ givePacket (0xBB ∷ []) (omega arith, tt)
+      ∷ askFrame fields out
+      ∷ givePacket (0xCC ∷ []) (omega arith, tt)
+      ∷ askFrame fields out
+      ∷ []
 
-abbrev ways : List Way
-ways = pass ∷ lose ∷ spoil (zeros 2081) zeros-differ ∷ pass ∷ []
+  abbrev pub calls : List SenderCall
+  calls = callPut [] (putting.Refused 4) queue ∷ run taps allowed freshSender queue inputs
 
-same-bytes : (n : ℕ) → Bytes (replicate n 0x55)
-same-bytes zero = tt
-same-bytes (suc n) = (omega arith, same-bytes n)
+  abbrev pub ways : List Way
+  ways = pass list list-size ∷ lose ∷ spoil (zeros frameSize) list ∷ pass list list-size ∷ []
 
-module _ (taps : ℕ) (allowed : tapsAllowed taps ≡ true) (fields : Fields) (fit : fieldsFit fields ≡ true) (out : List ℕ) (out-size : 2081 ≤ length out)
-    (list : List ℕ) (list-size : 10907 ≤ length list) (queue : List ℕ) (queue-bytes : Bytes queue) (queue-size : length queue ≡ 32768)
-    (hold : List ℕ) (hold-size : length hold ≡ 9000) where
-  abbrev calls : List SenderCall
-  calls = callPut [] (putting.Refused 4) queue ∷ run taps allowed fields fit out out-size freshSender queue granted
-
-  abbrev fates : List Fate
-  fates = fatesOf taps list list-size freshReceiver hold ways (framesSent calls)
+  abbrev pub fates : List Fate
+  fates = fatesOf taps freshReceiver hold ways (framesSent calls)
 
   nothing-put : PutOutcome queue freshSender [] (putting.Refused 4) queue
-  unfolding putRefusal isRingWhole isWhole parse packetsIn by
+  unfolding putRefusal firstOf isRingWhole isWhole parse packetsIn by
   nothing-put = record { answer = rw (eq-eqb (length queue) 32768 queue-size); bytes = rw (eq-eqb (length queue) 32768 queue-size) }
 
   calls-met : SenderCalls taps freshSender queue calls
@@ -66,19 +75,24 @@ module _ (taps : ℕ) (allowed : tapsAllowed taps ≡ true) (fields : Fields) (f
   calls-met = (
     tt,
     nothing-put,
-    all-yes taps allowed fields fit out out-size granted freshSender queue 0 empty (fresh-ready queue queue-bytes queue-size) (
+    all-yes taps allowed inputs freshSender queue 0 empty (fresh-ready queue queue-bytes queue-size) (
       (omega arith, omega arith),
-      (omega arith, tt),
       omega arith,
       (
         (omega arith, omega arith),
-        same-bytes 1904,
         omega arith,
         (
-          (omega arith, omega arith),
-          (omega arith, tt),
-          omega arith,
-          ((omega arith, omega arith), (omega arith, tt), omega arith, tt),
+          fit,
+          out-size,
+          (
+            fit,
+            out-size,
+            (
+              (omega arith, omega arith),
+              omega arith,
+              (fit, out-size, ((omega arith, omega arith), omega arith, (fit, out-size, tt))),
+            ),
+          ),
         ),
       ),
     ),
@@ -86,26 +100,37 @@ module _ (taps : ℕ) (allowed : tapsAllowed taps ≡ true) (fields : Fields) (f
 
   -- it is a history ..
   pub history : History taps queue hold calls fates
-  history = record {
-    allowed = allowed;
-    queue-bytes = queue-bytes;
-    hold-size = hold-size;
-    sent = calls-met;
-    came = all-met taps list list-size ways freshReceiver hold (framesSent calls);
-    limit = few-limit fates (omega arith);
-  }
+  history = history-of taps allowed queue queue-bytes hold hold-size ways (omega arith) calls calls-met
 
   promise : Promise taps queue calls fates
   promise = demand3-holds taps queue hold calls fates history
 
-  carried : map (piecesCarried taps) (framesSent calls) ≡ framesOf load empty granted
-  carried = all-carried taps 0 (framesSent calls) (framesOf load empty granted) (fresh-sound taps freshSender queue calls (fresh-stands queue queue-bytes) calls-met .carried)
+  carried : map (piecesCarried taps) (framesSent calls) ≡ framesOf load empty (granted calls)
+  carried =
+      all-carried taps 0 (framesSent calls) (framesOf load empty (granted calls))
+      (fresh-sound taps freshSender queue calls (fresh-stands queue queue-bytes) calls-met .carried)
+
+  marked : marks fates ≡ wayMarks taps ways
+  marked = fun-ext (marked-so taps ways freshReceiver hold (framesSent calls) (omega arith))
 
   -- .. in which the first packet and the last come out, ..
   pub two-come-out : packetsOf (learned fates) ≡ (0xAA ∷ []) ∷ (0xCC ∷ []) ∷ []
   unfolding load fillWaiting
-  two-come-out = promise .exactly ∙ ap (λ (all : List (List Piece)). came (marks fates) (ledger all)) carried ∙ refl
+  two-come-out =
+      promise .exactly
+      ∙ ap (λ (m : ℕ → Mark). came m (ledger (map (piecesCarried taps) (framesSent calls)))) marked
+      ∙ ap (λ (all : List (List Piece)). came (wayMarks taps ways) (ledger all)) carried
 
   -- .. and the missed counts are 0 and 2
   pub two-missed : missedOf (learned fates) ≡ 0 ∷ 2 ∷ []
-  two-missed = promise .counted
+  two-missed = promise .counted ∙ ap (λ (m : ℕ → Mark). gaps m 0 4) marked
+
+  -- .. no frame that arrived was refused, ..
+  pub none-refused : (number : ℕ) (more : List Answer) → learned fates ≡ refused number ∷ more → ⊥
+  none-refused number more e = rw e at (promise .all-accepted)
+
+  -- .. and the packets sent are the four that were put, in their order, with nothing left to send
+  pub four-sent : map packetOf (ledger (map (piecesCarried taps) (framesSent calls)))
+      ++ unsent (map (piecesCarried taps) (framesSent calls)) (queueLeft freshSender queue calls)
+      ≡ (0xAA ∷ []) ∷ long ∷ (0xBB ∷ []) ∷ (0xCC ∷ []) ∷ []
+  four-sent = promise .in-order

@@ -1,10 +1,14 @@
 pub mod Cases
 pub mod Outcomes
 pub mod Demand1
+pub mod CallsForC
 pub mod Demand2
 pub mod Sender
 pub mod Receiver
 pub mod Demand3
+pub mod Histories
 pub mod Runs
 pub mod Example
 pub mod ReadBack
+pub mod Consequences1
+pub mod Consequences2

@@ -1,74 +1,81 @@
--- Demand 1 of a call, from what its contract determines; and the numbers that a definition can give.
+-- Demand 1 of a call, from what its contract determines by the number of its table.
 use mathlib.Core.Path.{_≡_, refl, sym, ap, _∙_}
-use mathlib.Core.Bool.{Bool, true, false, cond, _&&_, _||_}
+use mathlib.Core.Bool.{Bool, true, false, _||_}
 use mathlib.Core.List.{List, [], _∷_}
 use Prim.Native.Nat.{ℕ}
-use native.Mathlib.Omega.{arith}
 use lib.Dec.{eqb}
-use borrow.Author.Tests.{eqb-true, eqb-false, ne-eqb}
-use Rattle.basics.proofs.Tests.{left-true, right-true}
-use Rattle.lent.specs.Outcome.{by}
-use Rattle.lent.proofs.Outcome.{kept}
-use Rattle.demands.specs.Demand1.{among, Demand1}
+use borrow.Author.Tests.{eq-eqb}
+use Rattle.lent.specs.Refusals.{Row, firstOf, by}
+use Rattle.lent.proofs.Refusals.{accepted, refused, kept, numbered, numbersOf, risingFrom, lowest-first}
+use Rattle.demands.specs.Demand1.{Demand1}
 
--- ---- the numbers that a definition can give
+-- whether a number is one of some
+abbrev pub among : ℕ → List ℕ → Bool
+among number [] = false
+among number (n ∷ numbers) = eqb number n || among number numbers
 
-pub record Given (numbers : List ℕ) (number : ℕ) : Type 0 where
-  pub is : among number numbers ≡ true
+-- a table's number that is not 0 is one of its rows'
+pub first-among : (table : List Row) → (firstOf table ≡ 0 → ⊥) → among (firstOf table) (numbersOf table) ≡ true
+unfolding firstOf
+first-among [] ne = absurd (ne refl)
+first-among (row ∷ rows) ne = go (row .applies) refl (first-among rows)
+  where
+    behind : (test : Bool) {more : Bool} → more ≡ true → (test || more) ≡ true
+    behind true e = refl
+    behind false e = e
 
-abbrev pub allAmong : List ℕ → List ℕ → Bool
-allAmong numbers [] = true
-allAmong numbers (n ∷ fewer) = among n numbers && allAmong numbers fewer
-
-module _ {numbers : List ℕ} where
-  pub given-cond : (test : Bool) {a b : ℕ} → Given numbers a → Given numbers b → Given numbers (cond test a b)
-  given-cond true x y = x
-  given-cond false x y = y
-
-  pub given-by : (number : ℕ) {a b : ℕ} → Given numbers a → Given numbers b → Given numbers (by number a b)
-  unfolding by
-  given-by number x y = given-cond (eqb number 0) x y
-
-  -- a number that is among fewer
-  pub given-more : {number : ℕ} (fewer : List ℕ) → allAmong numbers fewer ≡ true → Given fewer number → Given numbers number
-  given-more {number} fewer all given = record { is = more fewer all (given .is) }
-    where
-      more : (fewer : List ℕ) → allAmong numbers fewer ≡ true → among number fewer ≡ true → among number numbers ≡ true
-      more [] all e = let z : _≡_ {A = ℕ} 0 1 = cc in absurd (omega arith)
-      more (n ∷ fewer) all e = go (eqb number n) refl (more fewer (right-true (among n numbers) (allAmong numbers fewer) all)) e
-        where
-          go : (test : Bool) → eqb number n ≡ test → (among number fewer ≡ true → among number numbers ≡ true) → (test || among number fewer) ≡ true
-              → among number numbers ≡ true
-          go true t rest e = rw (eqb-true number n t) (left-true (among n numbers) (allAmong numbers fewer) all)
-          go false t rest e = rest e
-
-  pub without-zero : {number : ℕ} → (number ≡ 0 → ⊥) → Given (0 ∷ numbers) number → among number numbers ≡ true
-  without-zero {number} differs given = sym (ap (λ (t : Bool). t || among number numbers) (ne-eqb number 0 differs)) ∙ given .is
+    go : (test : Bool) → row .applies ≡ test → ((firstOf rows ≡ 0 → ⊥) → among (firstOf rows) (numbersOf rows) ≡ true)
+        → among (firstOf (row ∷ rows)) (numbersOf (row ∷ rows)) ≡ true
+    go true t more = rw (t, eq-eqb (row .number) (row .number) refl)
+    go false t more = rw t (behind (eqb (firstOf rows) (row .number)) (more (λ z. ne (rw t z))))
 
 -- a buffer that is not written
 pub unwritten : {B : Type 0} (number : ℕ) (new old : B) → (number ≡ 0 → ⊥) → by number new old ≡ old
 unwritten number new old differs = sym (kept number number new old refl differs)
 
--- ---- a call whose contract determines the answer by a number, and what is lent: `value`, which is what it was before if the number is not 0
+-- A call whose contract determines the answer by its table's number, and what is lent: `value`, which is what it was before if the number is not 0.
+module _ {A B : Type 0} (Meets : A → B → Type 0) (numberOf : A → ℕ) (Refused : ℕ → A) (number-of : (n : ℕ) → numberOf (Refused n) ≡ n)
+    (done : A) (no-number : numberOf done ≡ 0) (differs : (n : ℕ) → Refused n ≡ done → ⊥)
+    (table : List Row) (rising : risingFrom 0 (numbersOf table) ≡ true)
+    (before value : B) (same : (firstOf table ≡ 0 → ⊥) → value ≡ before)
+    (is : Meets (by (firstOf table) done (Refused (firstOf table))) value)
+    (tells : (answer : A) (after : B) → Meets answer after → (answer ≡ by (firstOf table) done (Refused (firstOf table))) × (after ≡ value)) where
+  numbers-so : (answer : A) (after : B) → Meets answer after → numberOf answer ≡ firstOf table
+  numbers-so answer after o = ap numberOf (tells answer after o .0) ∙ numbered numberOf done Refused no-number number-of (firstOf table)
 
-module _ {A B : Type 0} (Outcome : A → B → Type 0) (Refused : ℕ → A) (inject : (n m : ℕ) → Refused n ≡ Refused m → n ≡ m)
-    (done : A) (differs : (n : ℕ) → Refused n ≡ done → ⊥) (numbers : List ℕ) (number : ℕ) (gives : Given (0 ∷ numbers) number)
-    (before value : B) (same : (number ≡ 0 → ⊥) → value ≡ before)
-    (is : Outcome (by number done (Refused number)) value)
-    (tells : (answer : A) (after : B) → Outcome answer after → (answer ≡ by number done (Refused number)) × (after ≡ value)) where
-  refused-with : (n : ℕ) → Refused n ≡ by number done (Refused number) → (n ≡ number) × (number ≡ 0 → ⊥)
-  unfolding by
-  refused-with n = go (eqb number 0) refl
-    where
-      go : (test : Bool) → eqb number 0 ≡ test → Refused n ≡ cond test done (Refused number) → (n ≡ number) × (number ≡ 0 → ⊥)
-      go true t e = absurd (differs n e)
-      go false t e = (inject n number e, eqb-false number 0 t)
+  refused-so : (answer : A) (after : B) → Meets answer after → (numberOf answer ≡ 0 → ⊥) → answer ≡ Refused (numberOf answer)
+  refused-so answer after o ne =
+      let e = numbers-so answer after o in
+      tells answer after o .0 ∙ sym (refused (firstOf table) (firstOf table) done Refused refl (λ z. ne (e ∙ z))) ∙ ap Refused (sym e)
 
-  pub call-holds : Demand1 Outcome before (λ answer n. answer ≡ Refused n) numbers
+  -- an answer that is a refusal has a number
+  never-zero : (answer : A) (n : ℕ) (after : B) → Meets answer after → answer ≡ Refused n → firstOf table ≡ 0 → ⊥
+  never-zero answer n after o e z =
+      differs n (sym e ∙ tells answer after o .0 ∙ sym (accepted (firstOf table) (firstOf table) done (Refused (firstOf table)) done refl z refl))
+
+  pub call-holds : Demand1 Meets before numberOf (λ answer n. answer ≡ Refused n) table
   call-holds = record {
-    answered = (by number done (Refused number), (value, is));
+    answered = (by (firstOf table) done (Refused (firstOf table)), (value, is));
     one-outcome = λ r₁ r₂ a₁ a₂ x y. (tells r₁ a₁ x .0 ∙ sym (tells r₂ a₂ y .0), tells r₁ a₁ x .1 ∙ sym (tells r₂ a₂ y .1));
+    number = numbers-so;
+    lowest = lowest-first table rising;
+    refused = refused-so;
     refusal = λ r n after o e.
-        let found = refused-with n (sym e ∙ tells r after o .0) in
-        (rw (found .0) (without-zero (found .1) gives), tells r after o .1 ∙ same (found .1));
+        let ne = never-zero r n after o e in
+        let number-is : n ≡ firstOf table = sym (number-of n) ∙ ap numberOf (sym e) ∙ numbers-so r after o in
+        (λ z. ne (sym number-is ∙ z), tells r after o .1 ∙ same ne);
+  }
+
+-- A call that refuses nothing: its contract determines the answer.
+module _ {A B : Type 0} (Meets : A → B → Type 0) (done : A) (value : B) (is : Meets done value)
+    (tells : (answer : A) (after : B) → Meets answer after → (answer ≡ done) × (after ≡ value)) where
+  pub never-refuses : Demand1 Meets value (λ answer. 0) (λ answer n. ⊥) []
+  unfolding firstOf
+  never-refuses = record {
+    answered = (done, (value, is));
+    one-outcome = λ r₁ r₂ a₁ a₂ x y. (tells r₁ a₁ x .0 ∙ sym (tells r₂ a₂ y .0), tells r₁ a₁ x .1 ∙ sym (tells r₂ a₂ y .1));
+    number = λ r after o. refl;
+    lowest = lowest-first [] refl;
+    refused = λ r after o ne. ne refl;
+    refusal = λ r n after o e. absurd e;
   }

@@ -1,5 +1,5 @@
 -- The sender's half of a history: the frames that it sends carry the pieces that are cut from the queue, frame by frame.
-use mathlib.Core.Path.{_≡_, refl, ap, _∙_}
+use mathlib.Core.Path.{_≡_, refl, ap, subst, _∙_}
 use mathlib.Core.Bool.{Bool, true, false, cond}
 use mathlib.Core.Option.{some}
 use mathlib.Core.List.{List, [], _∷_, map}
@@ -10,17 +10,16 @@ use Rattle.header.specs.declared.FrameKind.the-variants.{Idle, Data}
 use Rattle.header.specs.declared.Header.{Header}
 use Rattle.opening.specs.Opening.{openedHeader, openedArea}
 use Rattle.opening.proofs.Built.{built-header, built-area}
-use Rattle.link.specs.Link.{Packet, ArePackets, Piece, Queue, IsQueue, empty, withPacket, cut, Call, putsOf, framesOf, queueAfter}
-use Rattle.link.specs.Link as link
-use Rattle.link.specs.Packing.{Opened, frameFor, piecesIn}
-use Rattle.link.proofs.Packing.{frame-pieces}
+use Rattle.link.specs.Link.{Packet, ArePackets, Piece, Queue, IsQueue, Cut, empty}
+use Rattle.link.proofs.Machine.{withPacket, cut, Call, putsOf, framesOf, queueAfter}
+use Rattle.link.proofs.Machine as machine
+use Rattle.link.proofs.Packing.{Opened, frameFor, piecesIn, frame-pieces}
 use Rattle.link.proofs.Sender.{put-queue, cut-queue}
 use Rattle.marks.specs.Queue.{usedIn}
 use Rattle.marks.proofs.Parsed.{queue-is}
-use Rattle.packing.specs.Filling.{load}
-use Rattle.packing.specs.Reading.{read}
+use Rattle.packing.proofs.Filling.{load, fill-cut}
+use Rattle.packing.specs.Records.{read}
 use Rattle.packing.proofs.Bench.{bench}
-use Rattle.joining.specs.Joining.{orNone}
 use Rattle.sender.specs.Put.{PutOutcome}
 use Rattle.sending.specs.Next.{NextOutcome}
 use Rattle.sender.specs.declared.Sender.{Sender}
@@ -29,16 +28,16 @@ use Rattle.sending.specs.declared.NextAnswer.the-variants as next
 use Rattle.sender.proofs.Stands.{Stands}
 use Rattle.sender.proofs.Putting.{put-stands}
 use Rattle.sending.proofs.Carried.{Carries, next-stands}
-use Rattle.receiver.specs.Applying.{piecesOf}
+use Rattle.receiver.specs.Applying.{piecesOf, orNone}
 use Rattle.demands.specs.Demand3.{SenderCall, callPut, callNext, SenderCalls, packetsPut, framesSent, queueLeft, piecesCarried}
 use Rattle.demands.proofs.Demand1.{every-call-holds}
 
 -- the calls that were not refused
 abbrev pub granted : List SenderCall → List Call
 granted [] = []
-granted (callPut packet (put.Taken after) queue ∷ calls) = link.put packet ∷ granted calls
+granted (callPut packet (put.Taken after) queue ∷ calls) = machine.put packet ∷ granted calls
 granted (callPut packet (put.Refused number) queue ∷ calls) = granted calls
-granted (callNext fields out (next.Sent sender kind) queue after ∷ calls) = link.next ∷ granted calls
+granted (callNext fields out (next.Sent sender kind) queue after ∷ calls) = machine.next ∷ granted calls
 granted (callNext fields out (next.Refused number) queue after ∷ calls) = granted calls
 
 -- a refusal leaves the queue
@@ -126,7 +125,8 @@ module _ (taps : ℕ) where
       record { carried = r .carried; packets = r .packets; taken = r .taken; left = r .left }
   sound (callNext fields out (next.Sent state kind) left after ∷ calls) i q sender queue s k h =
       let l = next-stands taps fields sender queue out state kind left after i q (h .0) s in
-      let r = sound calls (suc i) (cut (load q) q .left) state left (l .1) (cut-queue (load q) q k) (h .1) in
+      let stands = subst (λ (c : Cut). Stands left state (suc i) (c .left)) (fill-cut q k) (l .1) in
+      let r = sound calls (suc i) (cut (load q) q .left) state left stands (cut-queue (load q) q k) (h .1) in
       record {
         carried = (record { opened = frameFor bench q; carries = l .0; has = bench-pieces q k }, r .carried);
         packets = r .packets;

@@ -1,10 +1,11 @@
--- The numbers that paper 01 marks p ("Numbers to try"): one table of what the definitions give and what the paper states. `Cases` in proofs/ is its proof.
+-- The numbers that paper 01 marks p ("Numbers to try"), in one table: a definition, an input, and what the paper states. `cases-hold` in proofs/Cases.antt is
+-- its proof, and `cases-cite` there says which definition each row is about, so that no row can be about nothing.
 use mathlib.Core.Bool.{true, false}
-use mathlib.Core.List.{List, [], _∷_}
+use mathlib.Core.List.{List, [], _∷_, foldr}
 use mathlib.Core.Path.{_≡_}
 use Prim.Native.Nat.{ℕ, _+_}
 use lib.Count.{ones}
-use lib.IntN.{ℤ, pos, negℤ}
+use lib.IntN.{pos, negℤ}
 use mathlib.Core.Option.{none}
 use Rattle.basics.specs.Lists.{zeros}
 use Rattle.crc.specs.Crc.{crc-16, crc-32}
@@ -12,82 +13,77 @@ use Rattle.field.specs.Field.{power}
 use Rattle.scrambler.specs.Scrambler.{scrambled}
 use Rattle.level.specs.Level.{levelOf}
 use Rattle.header.specs.Header.{fieldBytes}
+use Rattle.header.specs.declared.Fields.{Fields}
 use Rattle.header.specs.declared.Header.{Header}
 use Rattle.header.specs.declared.FrameKind.the-variants.{Idle, Data}
 use Rattle.fast_channel.specs.declared.FastChannel.the-variants.{Absent, Version}
 use Rattle.frame.specs.Frame.{preamble}
-use Rattle.packing.specs.Filling.{area}
+use Rattle.sending.specs.Next.{areaFor}
 
--- a row: what a definition gives at some input, and what the paper states
-pub record Row : Type 1 where
-  pub Of : Type 0
-  pub found : Of
-  pub stated : Of
+-- a definition, as a function of its input
+pub record Definition : Type 1 where
+  pub In : Type 0
+  pub Out : Type 0
+  pub of : In → Out
 
-abbrev number : ℕ → ℕ → Row
-number found stated = record { Of = ℕ; found = found; stated = stated }
+-- a row: a definition, an input, and what the paper states that the definition gives there
+pub record Case : Type 1 where
+  pub cited : Definition
+  pub input : cited .In
+  pub stated : cited .Out
 
-abbrev bytes : List ℕ → List ℕ → Row
-bytes found stated = record { Of = List ℕ; found = found; stated = stated }
+module _ {In Out : Type 0} where
+  abbrev pub definition : (In → Out) → Definition
+  definition of = record { In = In; Out = Out; of = of }
+
+  infix 80 _at_gives_
+  abbrev pub _at_gives_ : (In → Out) → In → Out → Case
+  of at input gives stated = record { cited = definition of; input = input; stated = stated }
 
 -- every row is as the paper states
-abbrev pub Hold : List Row → Type 0
+abbrev pub Hold : List Case → Type 0
 Hold [] = Unit {0}
-Hold (row ∷ rows) = (row .found ≡ row .stated) × Hold rows
+Hold (row ∷ rows) = (row .cited .of (row .input) ≡ row .stated) × Hold rows
 
-abbrev oneBits : List ℕ → ℕ
-oneBits [] = 0
-oneBits (b ∷ bs) = ones b + oneBits bs
+-- what takes no input: the one bits of the preamble
+abbrev pub preambleOnes : Unit {0} → ℕ
+preambleOnes nothing = foldr (λ byte count. ones byte + count) 0 preamble
+
+-- bytes scrambled, for all taps
+abbrev pub underTaps : List ℕ → ℕ → List ℕ
+underTaps bytes taps = scrambled taps bytes
 
 -- IDLE, TXFN 1, all else 0, fast channel absent
-abbrev idle : Header
-idle = record {
-  txfn = record { 0 = 1 };
-  kind = Idle;
-  fields = record {
-    rxfn = record { 0 = 0 };
-    ack = false;
-    valid = false;
-    stamp = 0;
-    seconds = 0;
-    applies = 0;
-    message = Absent;
-  };
-}
+abbrev nothingTold : Fields
+nothingTold = record { rxfn = record { 0 = 0 }; ack = false; valid = false; stamp = 0; seconds = 0; applies = 0; message = Absent }
+
+abbrev pub idle : Header
+idle = record { txfn = record { 0 = 1 }; kind = Idle; fields = nothingTold }
 
 -- DATA, TXFN hex 1234, RXFN hex FFFF, ACK and ACK-valid 1, TX_TS 1, seconds 59, TS-applies 3, version 2.1.2
-abbrev versioned : Header
-versioned = record {
-  txfn = record { 0 = 0x1234 };
-  kind = Data;
-  fields = record {
-    rxfn = record { 0 = 0xFFFF };
-    ack = true;
-    valid = true;
-    stamp = 1;
-    seconds = 59;
-    applies = 3;
-    message = Version 2 1 2;
-  };
-}
+abbrev versionTold : Fields
+versionTold = record { rxfn = record { 0 = 0xFFFF }; ack = true; valid = true; stamp = 1; seconds = 59; applies = 3; message = Version 2 1 2 }
 
-unfoldable pub cases : List Row
+abbrev versioned : Header
+versioned = record { txfn = record { 0 = 0x1234 }; kind = Data; fields = versionTold }
+
+unfoldable pub cases : List Case
 cases =
-    number (crc-16 (0x01 ∷ [])) 0x1021
-    ∷ number (crc-32 (0x01 ∷ [])) 0x04C11DB7
-    ∷ number (crc-16 []) 0
-    ∷ number (crc-32 []) 0
-    ∷ number (power 8) 0x87
-    ∷ number (power 9) 0x89
-    ∷ number (power 254) 0xC3
-    ∷ number (oneBits preamble) 36
+    crc-16 at (0x01 ∷ []) gives 0x1021
+    ∷ crc-32 at (0x01 ∷ []) gives 0x04C11DB7
+    ∷ crc-16 at [] gives 0
+    ∷ crc-32 at [] gives 0
+    ∷ power at 8 gives 0x87
+    ∷ power at 9 gives 0x89
+    ∷ power at 254 gives 0xC3
+    ∷ preambleOnes at tt gives 36
     -- bytes 0 to 2 of the scrambler, for all taps; byte 3 for taps 0 and 3, and for taps 0 and 1
-    ∷ record { Of = ℕ → List ℕ; found = λ taps. scrambled taps (0 ∷ 0 ∷ 0 ∷ []); stated = λ taps. 0xE0 ∷ 0x00 ∷ 0x00 ∷ [] }
-    ∷ bytes (scrambled 9 (0 ∷ 0 ∷ 0 ∷ 0 ∷ [])) (0xE0 ∷ 0x00 ∷ 0x00 ∷ 0x70 ∷ [])
-    ∷ bytes (scrambled 3 (0 ∷ 0 ∷ 0 ∷ 0 ∷ [])) (0xE0 ∷ 0x00 ∷ 0x00 ∷ 0x10 ∷ [])
-    ∷ bytes (fieldBytes idle) (0x01 ∷ 0x00 ∷ 0x00 ∷ 0x00 ∷ 0xF0 ∷ 0x00 ∷ 0x00 ∷ 0x00 ∷ 0x00 ∷ 0x00 ∷ 0xC0 ∷ 0x8F ∷ 0xFF ∷ 0xFF ∷ [])
-    ∷ bytes (fieldBytes versioned) (0x34 ∷ 0x12 ∷ 0xFF ∷ 0xFF ∷ 0xFD ∷ 0x01 ∷ 0x00 ∷ 0x00 ∷ 0x00 ∷ 0x00 ∷ 0xFB ∷ 0xB5 ∷ 0x42 ∷ 0x10 ∷ [])
+    ∷ underTaps at (0 ∷ 0 ∷ 0 ∷ []) gives (λ taps. 0xE0 ∷ 0x00 ∷ 0x00 ∷ [])
+    ∷ scrambled 9 at (0 ∷ 0 ∷ 0 ∷ 0 ∷ []) gives (0xE0 ∷ 0x00 ∷ 0x00 ∷ 0x70 ∷ [])
+    ∷ scrambled 3 at (0 ∷ 0 ∷ 0 ∷ 0 ∷ []) gives (0xE0 ∷ 0x00 ∷ 0x00 ∷ 0x10 ∷ [])
+    ∷ fieldBytes at idle gives (0x01 ∷ 0x00 ∷ 0x00 ∷ 0x00 ∷ 0xF0 ∷ 0x00 ∷ 0x00 ∷ 0x00 ∷ 0x00 ∷ 0x00 ∷ 0xC0 ∷ 0x8F ∷ 0xFF ∷ 0xFF ∷ [])
+    ∷ fieldBytes at versioned gives (0x34 ∷ 0x12 ∷ 0xFF ∷ 0xFF ∷ 0xFD ∷ 0x01 ∷ 0x00 ∷ 0x00 ∷ 0x00 ∷ 0x00 ∷ 0xFB ∷ 0xB5 ∷ 0x42 ∷ 0x10 ∷ [])
     -- packet AA
-    ∷ bytes (area (record { rest = none; waiting = (0xAA ∷ []) ∷ [] })) (0xC0 ∷ 0x01 ∷ 0xAA ∷ zeros 1905)
-    ∷ record { Of = ℤ; found = levelOf 255; stated = negℤ (pos 6396930) }
+    ∷ areaFor at (record { rest = none; waiting = (0xAA ∷ []) ∷ [] }) gives (0xC0 ∷ 0x01 ∷ 0xAA ∷ zeros 1905)
+    ∷ levelOf at 255 gives negℤ (pos 6396930)
     ∷ []

@@ -9,6 +9,7 @@ use mathlib.Core.List.{List, [], _∷_, map}
 use Prim.Native.Nat.{ℕ, zero, suc, _≤_}
 use lib.ListN.{length, take}
 use Rattle.basics.specs.Lists.{Bytes}
+use Rattle.basics.specs.Sizes.{frameSize, holdSize, listSize}
 use Rattle.scrambler.specs.Scrambler.{tapsAllowed}
 use Rattle.header.specs.declared.Fields.{Fields}
 use Rattle.opening.specs.Opening.{openedHeader, openedArea}
@@ -16,7 +17,6 @@ use Rattle.link.specs.Link.{Packet, Piece, Queue, Answer, taken, refused}
 use Rattle.link.specs.Ledger.{Mark, lost, accepted, Limit}
 use Rattle.link.specs.Demand3.{Demand3}
 use Rattle.marks.specs.Queue.{waitingIn}
-use Rattle.joining.specs.Joining.{orNone}
 use Rattle.sender.specs.Put.{freshSender, PutOutcome}
 use Rattle.sending.specs.Next.{NextOutcome}
 use Rattle.sender.specs.declared.Sender.{Sender}
@@ -24,12 +24,12 @@ use Rattle.sender.specs.declared.PutAnswer.{PutAnswer}
 use Rattle.sender.specs.declared.PutAnswer.the-variants as put
 use Rattle.sending.specs.declared.NextAnswer.{NextAnswer}
 use Rattle.sending.specs.declared.NextAnswer.the-variants as next
-use Rattle.receiver.specs.Applying.{freshReceiver, piecesOf}
+use Rattle.receiver.specs.Applying.{freshReceiver, piecesOf, orNone}
 use Rattle.receiving.specs.Receiving.{ReceiveOutcome, receiverAfter}
 use Rattle.receiver.specs.declared.Receiver.{Receiver}
 use Rattle.receiving.specs.declared.ReceiveAnswer.{ReceiveAnswer}
 use Rattle.receiving.specs.declared.ReceiveAnswer.the-variants as receive
-use Rattle.list.specs.Reading.{packetsRead}
+use Rattle.list.specs.Entries.{packetsRead}
 
 -- ---------------------------------------------------------------- the sender's calls, refused ones among them
 
@@ -66,7 +66,7 @@ packetsPut (callNext fields out answer queue after ∷ calls) = packetsPut calls
 abbrev pub framesSent : List SenderCall → List (List ℕ)
 framesSent [] = []
 framesSent (callPut packet answer queue ∷ calls) = framesSent calls
-framesSent (callNext fields out (next.Sent sender kind) queue after ∷ calls) = take 2081 after ∷ framesSent calls
+framesSent (callNext fields out (next.Sent sender kind) queue after ∷ calls) = take frameSize after ∷ framesSent calls
 framesSent (callNext fields out (next.Refused number) queue after ∷ calls) = framesSent calls
 
 -- what waits in the queue after all calls
@@ -95,7 +95,7 @@ ReceiverCalls taps receiver hold [] frames = Unit {0}
 ReceiverCalls taps receiver hold (fate ∷ fates) [] = ⊥
 ReceiverCalls taps receiver hold (missing ∷ fates) (frame ∷ frames) = ReceiverCalls taps receiver hold fates frames
 ReceiverCalls taps receiver hold (arrives list answer left after ∷ fates) (frame ∷ frames) =
-    (10907 ≤ length list) × ReceiveOutcome taps frame receiver hold list answer left after × ReceiverCalls taps (receiverAfter receiver answer) left fates frames
+    (listSize ≤ length list) × ReceiveOutcome taps frame receiver hold list answer left after × ReceiverCalls taps (receiverAfter receiver answer) left fates frames
 ReceiverCalls taps receiver hold (damaged other list number left after ∷ fates) (frame ∷ frames) =
     ReceiveOutcome taps other receiver hold list (receive.Refused number) left after × ReceiverCalls taps receiver left fates frames
 
@@ -134,7 +134,7 @@ pub record History (taps : ℕ) (queue hold : List ℕ) (calls : List SenderCall
   pub allowed : tapsAllowed taps ≡ true
   -- any first contents of the lent buffers: the queue's (of another size than 32,768 it is refused by every call) and the hold's;
   pub queue-bytes : Bytes queue
-  pub hold-size : length hold ≡ 9000
+  pub hold-size : length hold ≡ holdSize
   -- calls to a fresh sender, in any order, refused ones among them, with any header fields and any frame buffers;
   pub sent : SenderCalls taps freshSender queue calls
   -- a fresh receiver, and what came to it;

@@ -4,6 +4,7 @@ ghost use lib.ListN.{length};
 use crate::TAPS;
 use crate::readers;
 use crate::readers::Readers;
+use basics::sizes;
 use receiver::Receiver;
 use receiving::ReceiveAnswer;
 use report::ledger;
@@ -101,7 +102,7 @@ fn through_beam(count: u16, frame: &mut [u8]) -> usize
     requires { ⌜ 2081 ≤ length (now frame) ⌝ }
 {
     match beam::fate_of(beam::shake_at(count)) {
-        Fate::Arrives => 2081,
+        Fate::Arrives => sizes::FRAME_SIZE,
         Fate::Damaged => {
             beam::damage(count, frame);
             beam::arriving(count)

@@ -3,6 +3,7 @@ mod far_end;
 mod near_end;
 mod readers;
 
+use basics::sizes;
 use far_end::FarEnd;
 use near_end::NearEnd;
 use vectors::text;
@@ -26,10 +27,10 @@ fn print_head() {
 }
 
 fn main() {
-    let mut queue = [0u8; 32768];
-    let mut frame = [0u8; 2081];
-    let mut hold = [0u8; 9000];
-    let mut list = [0u8; 10907];
+    let mut queue = [0u8; sizes::QUEUE_SIZE];
+    let mut frame = [0u8; sizes::FRAME_SIZE];
+    let mut hold = [0u8; sizes::HOLD_SIZE];
+    let mut list = [0u8; sizes::LIST_SIZE];
     let mut near = NearEnd::fresh();
     let mut far = FarEnd::fresh();
     print_head();

@@ -1,5 +1,6 @@
 // The near end: blocks are put, and the next frame is built.
 use crate::TAPS;
+use basics::sizes;
 use counts::Rxfn;
 use fast_channel::FastChannel;
 use header::Fields;
@@ -69,7 +70,7 @@ fn put_due(before: NearEnd, count: u16, queue: &mut [u8]) -> NearEnd {
         table::nothing_put();
         return before;
     }
-    let mut block = [0u8; 9000];
+    let mut block = [0u8; sizes::MOST_PACKET];
     let length = blocks::length_of(before.put);
     put_block(before, queue, &mut block[0..length])
 }
@@ -96,7 +97,7 @@ fn waiting(queue: &[u8], start: usize, used: usize) -> u16 {
     let mut packets: u16 = 0;
     let mut at: usize = 0;
     while at < used {
-        let length = mark_in(queue, start, used, at) % 32768;
+        let length = mark_in(queue, start, used, at) % sizes::BEGUN_BIT;
         if used - at < 2 + length {
             return packets;
         }
@@ -108,7 +109,7 @@ fn waiting(queue: &[u8], start: usize, used: usize) -> u16 {
 
 // 1 where a part of the packet at the front is sent, and 0 where none is.
 fn begun(queue: &[u8], start: usize, used: usize) -> u16 {
-    if mark_in(queue, start, used, 0) < 32768 {
+    if mark_in(queue, start, used, 0) < sizes::BEGUN_BIT {
         0
     } else {
         1

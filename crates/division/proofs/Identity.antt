@@ -50,7 +50,7 @@ module _ (times : ℕ → ℕ → ℕ) (Good : ℕ → Type 0) (sums : (a b : �
 
   pub identity : (g : List ℕ) (n : ℕ) (xs : List ℕ) → All g → All xs → length xs ≡ n + length g
       → plus (product times (quotient g n xs) (1 ∷ g)) (zeros n ++ remainder times g n xs) ≡ xs
-  unfolding quotient product remainder
+  unfolding quotient product remainder plus scale
   identity g zero xs hg hx e = refl
   identity g (suc n) [] hg hx e = absurd (suc-ne-zero (n + length g) (sym (e ∙ suc-add n (length g))))
   identity g (suc n) (c ∷ xs) hg hx e =

@@ -36,7 +36,7 @@ module _ (times : ℕ → ℕ → ℕ) (distrib : (a b x : ℕ) → times (bitXo
 
   pub remainder-plus : (g : List ℕ) (n : ℕ) (xs ys : List ℕ) → length xs ≡ length ys
       → remainder times g n (plus xs ys) ≡ plus (remainder times g n xs) (remainder times g n ys)
-  unfolding remainder
+  unfolding remainder plus scale
   remainder-plus g zero xs ys e = refl
   remainder-plus g (suc n) [] [] e = refl
   remainder-plus g (suc n) [] (y ∷ ys) e = absurd (suc-ne-zero (length ys) (sym e))
@@ -50,7 +50,7 @@ module _ (times : ℕ → ℕ → ℕ) (distrib : (a b x : ℕ) → times (bitXo
 
   -- so is the check of a sum of two messages
   pub check-plus : (g m n : List ℕ) → length m ≡ length n → check times g (plus m n) ≡ plus (check times g m) (check times g n)
-  unfolding check
+  unfolding check remainder
   check-plus g m n e =
       let z = zeros (length g) in
       let l : length (plus m n) ≡ length n = plus-length m n (length n) e refl in

@@ -109,7 +109,7 @@ module _ (times : ℕ → ℕ → ℕ) where
   -- what stands in the register is what long division still has to take off
   pub divide : (g s m p : List ℕ) (L : ℕ) → length g ≡ suc L → length s ≡ suc L → length p ≡ suc L
       → remainder times g (length m) (plus s (m ++ p)) ≡ plus (feed times g s m) p
-  unfolding remainder feed
+  unfolding remainder plus scale feed
   divide g s [] p L hg hs hp = refl
   divide g [] (d ∷ m) p L hg hs hp = absurd (suc-ne-zero L (sym hs))
   divide g (h ∷ t) (d ∷ m) p L hg hs hp =
@@ -121,7 +121,7 @@ module _ (times : ℕ → ℕ → ℕ) where
 
   -- the remainder of m times x^L is what a register of zeros holds after m
   pub check-feed : (g m : List ℕ) (L : ℕ) → length g ≡ suc L → check times g m ≡ feed times g (zeros (suc L)) m
-  unfolding check
+  unfolding check remainder
   check-feed g m L hg =
       let Z = zeros (suc L) in
       let hz : length Z ≡ suc L = zeros-length (suc L) in

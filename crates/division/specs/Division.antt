@@ -20,19 +20,16 @@ module _ (times : ℕ → ℕ → ℕ) where
 
   -- the product of two polynomials
   unfoldable pub product : List ℕ → List ℕ → List ℕ
-  unfolding plus scale
   product [] q = []
   product (a ∷ p) q = plus (scale a q) (0 ∷ product p q)
 
   -- Long division by a polynomial with leading coefficient 1, whose other coefficients are g: n times the leading coefficient c is taken off,
   -- with c times the divisor. What is left after n steps.
   unfoldable pub remainder : List ℕ → ℕ → List ℕ → List ℕ
-  unfolding plus scale
   remainder g zero xs = xs
   remainder g (suc n) [] = []
   remainder g (suc n) (c ∷ xs) = remainder g n (plus (scale c g) xs)
 
   -- the remainder of a message m times x^L by the divisor, L its degree
   unfoldable pub check : List ℕ → List ℕ → List ℕ
-  unfolding remainder
   check g m = remainder g (length m) (m ++ zeros (length g))

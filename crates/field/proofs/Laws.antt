@@ -5,7 +5,6 @@ use Prim.Native.Nat.{ℕ, zero, suc, _+_, _*_, _/_, _%_, _^_, _<_}
 use native.Mathlib.Nat.{mod-lt, zero-mul, one-mul, zero-add, suc-add}
 use native.Mathlib.Numerals.{add-one}
 use lib.Dec.{T, eqb, eqb→eq, lit<}
-use lib.Pow.{pow-lt}
 use lib.Bits.{bitXor, xor-lt, xor-mod}
 use Rattle.field.specs.Field.{twice, double, power, sumOver, times}
 use Rattle.basics.proofs.Xor.{bit-mul-lt, xor-half, xor-cross, xor-bit-mul, bit-cases}
@@ -63,9 +62,6 @@ left b a c ha hc = times-xor-left a c b
 
 right : (a : ℕ) → Additive 8 (times a)
 right a b c hb hc = times-xor-right a b c hb hc
-
-bit-lt : (j : ℕ) → j < 8 → 2 ^ j < 256
-bit-lt j h = pow-lt h
 
 -- ---- the laws at 1, 2, 4, .., 128, computed
 

@@ -14,22 +14,18 @@ fieldPolynomial = 0x187
 
 -- x times a byte, in the field
 unfoldable pub double : ℕ → ℕ
-unfolding twice
 double a = twice 8 fieldPolynomial a
 
 -- the k-th power of 2, which is x
 unfoldable pub power : ℕ → ℕ
-unfolding double
 power zero = 1
 power (suc k) = double (power k)
 
 -- the sum of b doubled k times, over the bits k of a that are 1, k from 0 to n - 1
 unfoldable pub sumOver : ℕ → ℕ → ℕ → ℕ
-unfolding double
 sumOver zero a b = 0
 sumOver (suc n) a b = bitXor (a % 2 * b) (sumOver n (a / 2) (double b))
 
 -- the product of two bytes
 unfoldable pub times : ℕ → ℕ → ℕ
-unfolding sumOver
 times a b = sumOver 8 a b

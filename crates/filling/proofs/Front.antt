@@ -10,7 +10,8 @@ use lib.ListN.{length, take, drop, length-append, length-drop}
 use lib.Seq.{drop-drop, take-append-le, drop-append-le}
 use borrow.Author.Tests.{lt-ltb, le-ltb}
 use Rattle.link.specs.Link.{Packet, ArePackets, Queue, IsRest, IsQueue, cutNothing}
-use Rattle.link.specs.Store.{marked, layoutPackets, layoutRest, layout, markAt}
+use Rattle.link.specs.Store.{marked, layoutPackets, layoutRest, layout}
+use Rattle.link.specs.Parsing.{markAt}
 use Rattle.link.proofs.Store.{mark-back, markFrom, mark-from}
 use Rattle.packing.specs.Rules.{shortest}
 use Rattle.packing.specs.Filling.{fillFront, fillWaiting, fill}
@@ -54,6 +55,10 @@ nothing room q = go (q .rest) (q .waiting)
     go none (p ∷ ps) e = absurd (omega arith)
     go (some rest) ps e = absurd (omega arith)
 
+mark-fits : (first : Bool) (n : ℕ) → n ≤ 9000 → frontMark first n < 65536
+mark-fits true n h = omega arith
+mark-fits false n h = omega arith
+
 mark-length : (first : Bool) (n : ℕ) → n ≤ 9000 → frontMark first n % 32768 ≡ n
 mark-length true n h = omega arith
 mark-length false n h = omega arith
@@ -72,7 +77,7 @@ module _ (bytes : List ℕ) (from : ℕ) {q : Queue} (here : layout q ≡ drop f
 
   mark-is : markFrom bytes from ≡ frontMark (f .first) (length (f .bytes))
   mark-is =
-      sym (mark-from bytes from) ∙ ap markAt stands ∙ mark-back (frontMark (f .first) (length (f .bytes))) (f .bytes ++ layoutPackets (f .packets))
+      sym (mark-from bytes from) ∙ ap markAt stands ∙ mark-back (frontMark (f .first) (length (f .bytes))) (f .bytes ++ layoutPackets (f .packets)) (mark-fits (f .first) (length (f .bytes)) (f .high))
 
   pub length-is : markFrom bytes from % 32768 ≡ length (f .bytes)
   length-is = ap (λ (m : ℕ). m % 32768) mark-is ∙ mark-length (f .first) (length (f .bytes)) (f .high)

@@ -11,7 +11,7 @@ use Rattle.basics.specs.Lists.{zeros, Bytes}
 use Rattle.basics.proofs.Lists.{bytes-take, drop-take}
 use Rattle.lent.specs.Written.{written}
 use Rattle.link.specs.Link.{Piece}
-use Rattle.link.specs.Store.{markAt, isWhole}
+use Rattle.link.specs.Parsing.{markAt, isWhole}
 use Rattle.link.proofs.Store.{markFrom}
 use Rattle.packing.specs.Rules.{recordBytes}
 use Rattle.ring.specs.Ring.{roundFrom}

@@ -14,11 +14,12 @@ use Rattle.basics.proofs.Lists.{zeros-length}
 use Rattle.lent.specs.Written.{written}
 use Rattle.lent.proofs.Written.{written-length, take-written, drop-written}
 use Rattle.link.specs.Link.{Piece, Queue, IsQueue, Cut, cutNothing, cutLast, pieceThen}
-use Rattle.link.specs.Store.{marked, layoutPackets, layout, isWhole}
+use Rattle.link.specs.Store.{marked, layoutPackets, layout}
+use Rattle.link.specs.Parsing.{isWhole}
 use Rattle.link.proofs.Store.{markFrom}
 use Rattle.link.proofs.RoundTrip.{parse-queue, layout-back}
 use Rattle.packing.specs.Rules.{recordBytes, recordsBytes}
-use Rattle.packing.specs.Filling.{fill, area}
+use Rattle.packing.specs.Filling.{fill}
 use Rattle.marks.specs.Queue.{queueIn}
 use Rattle.marks.proofs.Parsed.{whole-parsed}
 use Rattle.filling.specs.Filling.{remaining, FillOutcome}
@@ -104,7 +105,6 @@ module _ (after : List ℕ) (at : ℕ) (piece : Piece) {after′ : List ℕ} (e 
 module _ {bytes after : List ℕ} {at from : ℕ} (i : Filling bytes after at from) where
   -- nothing more is filled in
   stops : fill (1908 - at) (i .queue) ≡ cutNothing (i .queue .rest) (i .queue .waiting) → FillOutcome bytes (record { stop = from; unsent = 0 }) after
-  unfolding area
   stops e = record {
     filled = laid after (recordsBytes (fill 1908 (queueIn bytes) .pieces)) at
         (i .records ∙ ap (λ (c : Cut). take at after ++ recordsBytes (c .pieces)) e ∙ append-nil (take at after)) (i .low) (i .long) (i .clear);
@@ -189,7 +189,7 @@ module _ {bytes after : List ℕ} {at from : ℕ} (i : Filling bytes after at fr
       pub cuts : {after′ : List ℕ} → 1908 - at < 2 + mark % 32768
           → after′ ≡ written after at (recordBytes (asWritten false (1908 - at - 2)))
           → FillOutcome bytes (record { stop = from + 2 + (1908 - at - 2); unsent = mark % 32768 - (1908 - at - 2) }) after′
-      unfolding layout area
+      unfolding layout
       cuts {after′} s w =
           let k = 1908 - at - 2 in
           let some-bytes : Piece = piece false k in

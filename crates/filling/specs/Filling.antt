@@ -6,8 +6,10 @@ use mathlib.Core.List.{List}
 use Prim.Native.Nat.{ℕ, _+_, _≤_}
 use lib.Dec.{eqb}
 use lib.ListN.{length, drop}
+use Rattle.basics.specs.Sizes.{areaSize, mostHeld, begunBit}
 use Rattle.link.specs.Store.{marked, layout}
-use Rattle.packing.specs.Filling.{fill, area}
+use Rattle.packing.specs.Rules.{areaOf}
+use Rattle.packing.specs.Filling.{fill}
 use Rattle.ring.specs.Ring.{ringWritten}
 use Rattle.marks.specs.Queue.{queueIn, startAfter}
 use Rattle.filling.specs.declared.Filled.{Filled}
@@ -15,13 +17,13 @@ use Rattle.filling.specs.declared.Left.{Left}
 
 -- what remains: bytes from a mark on; or those of a packet that was cut, with this many unsent, and then its new mark stands before them
 unfoldable pub remaining : ℕ → List ℕ → List ℕ
-remaining unsent bytes = cond (eqb unsent 0) bytes (marked (32768 + unsent) bytes)
+remaining unsent bytes = cond (eqb unsent 0) bytes (marked (begunBit + unsent) bytes)
 
 pub record FillOutcome (bytes : List ℕ) (r : Filled) (after : List ℕ) : Type 0 where
-  pub filled : after ≡ area (queueIn bytes)
-  pub rest : layout (fill 1908 (queueIn bytes) .left) ≡ remaining (r .unsent) (drop (r .stop) bytes)
+  pub filled : after ≡ areaOf (fill areaSize (queueIn bytes) .pieces)
+  pub rest : layout (fill areaSize (queueIn bytes) .left) ≡ remaining (r .unsent) (drop (r .stop) bytes)
   pub inside : r .stop ≤ length bytes
-  pub most : r .unsent ≤ 8999
+  pub most : r .unsent ≤ mostHeld
   pub behind : (r .unsent ≡ 0 → ⊥) → 2 ≤ r .stop
 
 -- this rest of the used bytes remains, and the ring holds it from its new start on

@@ -1,11 +1,13 @@
 // Taking the next frame's records off the ring: the area is filled, then what was sent is freed.
+use basics::sizes;
 ghost use mathlib.Core.Path.{_≡_};
 ghost use mathlib.Core.Bool.{true, cond};
 ghost use Prim.Native.Nat.{_+_, _≤_, _<_};
 ghost use lib.ListN.{length, take, drop};
 ghost use Rattle.basics.specs.Lists.{zeros};
+ghost use Rattle.basics.specs.Sizes.{areaSize, mostHeld, queueSize};
 ghost use Rattle.lent.specs.Written.{written};
-ghost use Rattle.link.specs.Store.{isWhole};
+ghost use Rattle.link.specs.Parsing.{isWhole};
 ghost use Rattle.packing.specs.Rules.{recordBytes};
 ghost use Rattle.ring.specs.Ring.{roundFrom};
 ghost use Rattle.marks.specs.Queue.{usedIn};
@@ -19,13 +21,13 @@ pub struct Filled {
 
 // Writes records of the waiting packets into an area of zeros: while one waits and 3 or more bytes remain, as much of it as fits.
 pub fn fill(queue: &[u8], start: usize, used: usize, area: &mut [u8]) -> Filled
-    requires { ⌜ (start ≤ length (now queue)) × (used ≤ length (now queue)) × (isWhole (usedIn (now queue) start used) ≡ true) × (now area ≡ zeros 1908) ⌝ }
+    requires { ⌜ (start ≤ length (now queue)) × (used ≤ length (now queue)) × (isWhole (usedIn (now queue) start used) ≡ true) × (now area ≡ zeros areaSize) ⌝ }
     ensures { λ r. ⌜ FillOutcome (usedIn (now (queue .entry)) start used) r (now (area .exit)) ⌝ }
 {
     let mut at: usize = 0;
     let mut from: usize = 0;
     while from < used {
-        let room = 1908 - at;
+        let room = sizes::AREA_SIZE - at;
         if room < 3 {
             return Filled {
                 stop: from,
@@ -33,8 +35,8 @@ pub fn fill(queue: &[u8], start: usize, used: usize, area: &mut [u8]) -> Filled
             };
         }
         let mark = marks::mark_round(queue, start, from);
-        let first = mark < 32768;
-        let length = mark % 32768;
+        let first = mark < sizes::BEGUN_BIT;
+        let length = mark % sizes::BEGUN_BIT;
         let behind = from + 2;
         if room < 2 + length {
             let fitting = room - 2;
@@ -69,7 +71,7 @@ fn write_record(
     ensures { λ _. ⌜ now (area .exit) ≡ written (now (area .entry)) at
         (recordBytes (record { first = first; last = last; bytes = take n (drop from (roundFrom start (now (queue .entry)))) })) ⌝ }
 {
-    let mark = value_of(first, 32768) + value_of(last, 16384) + n;
+    let mark = value_of(first, sizes::FIRST_BIT) + value_of(last, sizes::LAST_BIT) + n;
     let mark_bytes = marks::bytes_of(mark);
     lent::write_at(area, at, &mark_bytes);
     ring::copy_out(queue, start, from, n, area, at + 2);
@@ -91,17 +93,17 @@ pub struct Left {
 
 // Frees the ring up to where filling stopped. A cut packet's new mark, with bit 15 "begun", goes over the two bytes before its rest; no other byte is written.
 pub fn free_front(queue: &mut [u8], start: usize, used: usize, stop: usize, unsent: usize) -> Left
-    requires { ⌜ (length (now queue) ≡ 32768) × (start < 32768) × (used ≤ 32768) × (stop ≤ used) × (unsent ≤ 8999) × ((unsent ≡ 0 → ⊥) → 2 ≤ stop) ⌝ }
+    requires { ⌜ (length (now queue) ≡ queueSize) × (start < queueSize) × (used ≤ queueSize) × (stop ≤ used) × (unsent ≤ mostHeld) × ((unsent ≡ 0 → ⊥) → 2 ≤ stop) ⌝ }
     ensures { λ r. ⌜ Freed (now (queue .entry)) start used (remaining unsent (drop stop (usedIn (now (queue .entry)) start used))) r (now (queue .exit)) ⌝ }
 {
     if unsent == 0 {
         return Left {
-            start: (start + stop) % 32768,
+            start: (start + stop) % sizes::QUEUE_SIZE,
             used: used - stop,
         };
     }
-    let mark_bytes = marks::bytes_of(32768 + unsent);
-    let front = (start + (stop - 2)) % 32768;
+    let mark_bytes = marks::bytes_of(sizes::BEGUN_BIT + unsent);
+    let front = (start + (stop - 2)) % sizes::QUEUE_SIZE;
     ring::write_at(queue, front, 0, &mark_bytes);
     Left {
         start: front,

@@ -1,33 +1,33 @@
-// Whether the records of a DATA area may be joined to what is held: the refusals 14 and 15 (01, "Receiving").
+// Whether the first record of a DATA area may be joined to what is held (01, "Receiving"; refusal 15 where not).
+use basics::sizes;
 use packing::Found;
 ghost use mathlib.Core.Path.{_≡_};
-ghost use Rattle.link.specs.Link.{mostJoined, fitsPiece};
-ghost use Rattle.fitting.specs.Fitting.{recordsRefusal};
+ghost use mathlib.Core.Bool.{true};
+ghost use mathlib.Core.Option.{some};
+ghost use mathlib.Core.List.{List};
+ghost use Rattle.link.specs.Link.{Piece, mostJoined, fitsPiece, fits};
+ghost use Rattle.basics.specs.Lists.{isSome};
+ghost use Rattle.packing.specs.Records.{read};
 
-// 14, and 15 by the first record; 0 for neither.
-pub fn records_refusal(area: &[u8], held: &[u8]) -> u8
-    ensures { λ r. ⌜ r ≡ recordsRefusal (now (held .entry)) (now (area .entry)) ⌝ }
+// Whether the first record of an area that is not against the packing rules fits.
+pub fn first_fits(area: &[u8], held: &[u8]) -> bool
+    requires { ⌜ isSome (read (now area)) ≡ true ⌝ }
+    ensures { λ r. ⌜ ((pieces : List Piece) → read (now (area .entry)) ≡ some pieces → r ≡ fits (now (held .entry)) pieces) ⌝ }
 {
-    if !packing::is_allowed(area) {
-        return 14;
-    }
     let found = packing::record_at(area, 0);
     match found {
         Found::At(record) => {
             let start = record.start;
             let end = start + record.length;
-            if fits(held, record.first, record.last, &area[start..end]) {
-                return 0;
-            }
-            15
+            record_fits(held, record.first, record.last, &area[start..end])
         }
-        Found::End => 14,
-        Found::Against => 14,
+        Found::End => true,
+        Found::Against => true,
     }
 }
 
-// Whether a record can be joined to what is held (15 where not).
-fn fits(held: &[u8], first: bool, last: bool, bytes: &[u8]) -> bool
+// Whether a record can be joined to what is held.
+fn record_fits(held: &[u8], first: bool, last: bool, bytes: &[u8]) -> bool
     ensures { λ r. ⌜ r ≡ fitsPiece (now (held .entry)) first last (now (bytes .entry)) ⌝ }
 {
     if first {
@@ -47,5 +47,9 @@ fn fits(held: &[u8], first: bool, last: bool, bytes: &[u8]) -> bool
 fn most_joined(last: bool) -> usize
     ensures { λ r. ⌜ r ≡ mostJoined last ⌝ }
 {
-    if last { 9000 } else { 8999 }
+    if last {
+        sizes::MOST_PACKET
+    } else {
+        sizes::MOST_HELD
+    }
 }

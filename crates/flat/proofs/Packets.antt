@@ -7,7 +7,7 @@ use native.Mathlib.Omega.{arith}
 use lib.Dec.{eqb}
 use lib.ListN.{length, take, drop}
 use borrow.Author.Tests.{eqb-true, eqb-false}
-use Rattle.list.specs.Reading.{lengthAt, entryAnswer, packetAt, placeAt}
+use Rattle.list.specs.Entries.{lengthAt, entryAnswer, packetAt, placeAt}
 use Rattle.list.proofs.Lengths.{no-mark}
 use Rattle.list.proofs.Calls.{at-end, at-refusal, at-packet}
 use Rattle.flat.specs.Answers.{flatPacket}

@@ -1,16 +1,15 @@
-// The library's answers as C has them: the refusal's number, 0 for none, beside the values. A refusal's answer has the state as it was given, and zeros elsewhere.
+// The library's answers as C has them: the refusal's number, 0 for none, beside the values. A refusal's answer has the state as it was given, and zeros
+// elsewhere.
 use flat_headers::headers;
 use flat_headers::headers::FlatHeader;
 use flat_states::FlatReceiver;
 use flat_states::FlatSender;
-use header::CodeAnswer;
 use list::EntryAnswer;
 use reading::ReadAnswer;
 use receiving::ReceiveAnswer;
 use sender::PutAnswer;
 use sending::NextAnswer;
 ghost use mathlib.Core.Path.{_≡_};
-ghost use Rattle.header.specs.Calls.{codeNumber};
 ghost use Rattle.flat.specs.Answers.{flatPut, flatNext, flatReceive, flatRead, flatEntry, flatPacket};
 
 #[repr(C)]
@@ -116,15 +115,6 @@ pub fn flat_receive(given: FlatReceiver, answer: ReceiveAnswer) -> FlatReceive
             missed: 0,
             refusal: number,
         },
-    }
-}
-
-pub fn code_number(answer: CodeAnswer) -> u8
-    ensures { λ r. ⌜ r ≡ codeNumber answer ⌝ }
-{
-    match answer {
-        CodeAnswer::Coded => 0,
-        CodeAnswer::Refused(number) => number,
     }
 }
 

@@ -2,7 +2,7 @@
 -- (6), so that the number which C gets is the library's, the lowest that applies.
 use mathlib.Core.Bool.{Bool, true, cond, _&&_}
 use lib.Dec.{eqb, leb}
-use Rattle.header.specs.Header.{bit, kindNumber}
+use Rattle.header.specs.Header.{flagBit, kindNumber}
 use Rattle.reading.specs.Reading.{kindOf}
 use Rattle.fast_channel.specs.declared.FastChannel.{FastChannel}
 use Rattle.fast_channel.specs.declared.FastChannel.the-variants.{Reserved}
@@ -47,8 +47,8 @@ abbrev pub flatFields : Fields → FlatFields
 flatFields fields = record {
   stamp = fields .stamp;
   rxfn = fields .rxfn .0;
-  ack = bit (fields .ack);
-  valid = bit (fields .valid);
+  ack = flagBit (fields .ack);
+  valid = flagBit (fields .valid);
   seconds = fields .seconds;
   applies = fields .applies;
   message = flatMessage (fields .message);

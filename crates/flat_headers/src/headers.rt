@@ -4,10 +4,12 @@ use crate::messages::FlatMessage;
 use counts::Rxfn;
 use counts::Txfn;
 use fast_channel::FastChannel;
+use header::CodeAnswer;
 use header::Fields;
 use header::Header;
 use header::coding;
 ghost use mathlib.Core.Path.{_≡_};
+ghost use Rattle.header.specs.Calls.{codeNumber};
 ghost use Rattle.flat_headers.specs.Headers.{flagsFit, sentMessage, fieldsWhere, fieldsOf, headerOf, flatFields, flatHeader, noHeader};
 
 #[repr(C)]
@@ -141,5 +143,15 @@ pub fn no_header() -> FlatHeader
         },
         txfn: 0,
         kind: 0,
+    }
+}
+
+// The number of what coding a header answers, 0 for no refusal.
+pub fn code_number(answer: CodeAnswer) -> u8
+    ensures { λ r. ⌜ r ≡ codeNumber answer ⌝ }
+{
+    match answer {
+        CodeAnswer::Coded => 0,
+        CodeAnswer::Refused(number) => number,
     }
 }

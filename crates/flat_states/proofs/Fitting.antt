@@ -2,10 +2,10 @@
 use mathlib.Core.Path.{_≡_}
 use mathlib.Core.Bool.{false}
 use lib.Dec.{leb}
+use Rattle.basics.specs.Sizes.{mostHeld}
 use Rattle.flat_states.specs.States.{isReceiver, heldOf, receiverOf}
 use Rattle.flat_states.specs.declared.FlatReceiver.{FlatReceiver}
 
--- 8,999 is the most that may be held
-pub state-misfit : (flat : FlatReceiver) → isReceiver flat ≡ false → leb (receiverOf flat .held) 8999 ≡ false
+pub state-misfit : (flat : FlatReceiver) → isReceiver flat ≡ false → leb (receiverOf flat .held) mostHeld ≡ false
 unfolding heldOf
 state-misfit flat e = rw e

@@ -2,6 +2,7 @@
 use mathlib.Core.Bool.{Bool, true, cond, _&&_}
 use Prim.Native.Nat.{ℕ}
 use lib.Dec.{eqb}
+use Rattle.basics.specs.Sizes.{holdSize}
 use Rattle.receiver.specs.declared.Expected.{Expected}
 use Rattle.receiver.specs.declared.Expected.the-variants.{None, Frame}
 use Rattle.receiver.specs.declared.Receiver.{Receiver}
@@ -22,9 +23,9 @@ isReceiver flat = cond (eqb (flat .expects) 1) true (eqb (flat .expects) 0 && eq
 abbrev pub expectedOf : FlatReceiver → Expected
 expectedOf flat = cond (eqb (flat .expects) 0) None (Frame (record { 0 = flat .expected }))
 
--- what is no receiver's state is given a held length above 8,999, and so is refused with 3
+-- what is no receiver's state is given a hold that is full, more than may be held, and so is refused with 3
 unfoldable pub heldOf : FlatReceiver → ℕ
-heldOf flat = cond (isReceiver flat) (flat .held) 9000
+heldOf flat = cond (isReceiver flat) (flat .held) holdSize
 
 abbrev pub receiverOf : FlatReceiver → Receiver
 receiverOf flat = record { expected = expectedOf flat; held = heldOf flat }

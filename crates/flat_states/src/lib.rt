@@ -1,4 +1,5 @@
-// The two states. Any three numbers are a sender's, which the library judges; numbers that are no receiver's are given a held length that it refuses (3).
+// The two states. Any three numbers are a sender's, which the library judges; numbers that are no receiver's are given a full hold, which it refuses (3).
+use basics::sizes;
 use counts::Txfn;
 use receiver::Expected;
 use receiver::Receiver;
@@ -68,7 +69,7 @@ fn held_of(receiver: FlatReceiver) -> usize
     if is_receiver(receiver) {
         receiver.held
     } else {
-        9000
+        sizes::HOLD_SIZE
     }
 }
 

@@ -1,7 +1,8 @@
 -- A frame on the wire (2.6.3.1; 01, "The frame on the wire"): 2,081 bytes, made of a header and 1,908 bytes of area.
 use mathlib.Core.List.{List, [], _∷_, _++_}
-use Prim.Native.Nat.{ℕ, _/_, _%_}
+use Prim.Native.Nat.{ℕ}
 use Rattle.basics.specs.Lists.{zeros}
+use Rattle.basics.specs.Numbers.{highFirst}
 use Rattle.crc.specs.Crc.{crc-32}
 use Rattle.reed_solomon.specs.Code.{parity}
 use Rattle.interleaving.specs.Payload.{codedPayload}
@@ -19,9 +20,7 @@ codedHeader header = headerBytes header ++ parity (zeros 223 ++ headerBytes head
 
 -- the CRC-32 of the area, high byte first
 unfoldable pub areaCheck : List ℕ → List ℕ
-areaCheck area =
-    let sum = crc-32 area in
-    (sum / 16777216 % 256) ∷ (sum / 65536 % 256) ∷ (sum / 256 % 256) ∷ (sum % 256) ∷ []
+areaCheck area = highFirst 4 (crc-32 area)
 
 -- 2,040 bytes: the area and its check sum, coded into eight interleaved words
 unfoldable pub areaPayload : List ℕ → List ℕ

@@ -4,6 +4,7 @@ ghost use mathlib.Core.Path.{_≡_};
 ghost use mathlib.Core.List.{_++_};
 ghost use Prim.Native.Nat.{_+_, _≤_};
 ghost use lib.ListN.{length};
+ghost use Rattle.basics.specs.Sizes.{areaSize};
 ghost use Rattle.lent.specs.Written.{written};
 ghost use Rattle.reed_solomon.specs.Code.{parity};
 ghost use Rattle.scrambler.specs.Scrambler.{scrambled};
@@ -48,7 +49,7 @@ pub fn area_check(area: &[u8]) -> [u8; 4]
 }
 
 fn area_payload(area: &[u8]) -> [u8; 2040]
-    requires { ⌜ length (now area) ≡ 1908 ⌝ }
+    requires { ⌜ length (now area) ≡ areaSize ⌝ }
     ensures { λ r. ⌜ r ≡ areaPayload (now (area .entry)) ⌝ }
 {
     let check = area_check(area);
@@ -60,7 +61,7 @@ fn area_payload(area: &[u8]) -> [u8; 2040]
 
 // The coded header and the area's payload, scrambled without a break.
 pub fn scrambled_body(taps: u32, head: &[u8], area: &[u8]) -> [u8; 2072]
-    requires { ⌜ (length (now head) ≡ 32) × (length (now area) ≡ 1908) ⌝ }
+    requires { ⌜ (length (now head) ≡ 32) × (length (now area) ≡ areaSize) ⌝ }
     ensures { λ r. ⌜ r ≡ scrambled taps (now (head .entry) ++ areaPayload (now (area .entry))) ⌝ }
 {
     let payload = area_payload(area);

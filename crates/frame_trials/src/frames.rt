@@ -2,6 +2,7 @@
 // it: `opened` opens it as it is, `refused` with some of its bytes changed.
 ghost use Prim.Native.Nat.{_≤_};
 ghost use lib.ListN.{length};
+use basics::sizes;
 use header_fields::fields;
 use lent_bytes::Lent;
 use opening::OpenAnswer;
@@ -84,7 +85,13 @@ pub fn opened(body: &[u8], at_hand: &Lent) -> Outcome {
     let frame = lent_bytes::kept_behind(at_hand);
     let area = lent_bytes::area(&body[31..]);
     let expected = lent_bytes::kept_behind(&area);
-    opened_outcome(body, &frame[0..2081], room, &body[6..31], &expected)
+    opened_outcome(
+        body,
+        &frame[0..sizes::FRAME_SIZE],
+        room,
+        &body[6..31],
+        &expected,
+    )
 }
 
 // Taps, the frame's length, the room lent for the area, the refusal's number, changes to the frame at hand.

@@ -1,10 +1,10 @@
 -- The 16 bytes of a header, d0 to d15 (Tables 2-9 and 2-10; 01, "The frame on the wire"), and which header may be sent in them.
 use mathlib.Core.Bool.{Bool, cond, _&&_, _||_}
 use mathlib.Core.List.{List, [], _∷_, _++_}
-use Prim.Native.Nat.{ℕ, _+_, _*_, _/_, _%_}
+use Prim.Native.Nat.{ℕ, _+_, _*_, _%_}
 use lib.Dec.{eqb}
 use Rattle.crc.specs.Crc.{crc-16}
-use Rattle.basics.specs.Numbers.{fitsBits, lowFirst}
+use Rattle.basics.specs.Numbers.{fitsBits, lowFirst, highFirst}
 use Rattle.fast_channel.specs.FastChannel.{opcodeOf, payloadOf, messageFits}
 use Rattle.header.specs.declared.FrameKind.{FrameKind}
 use Rattle.header.specs.declared.FrameKind.the-variants.{Idle, Data, Type2, Type3}
@@ -12,8 +12,8 @@ use Rattle.fast_channel.specs.declared.FastChannel.{FastChannel}
 use Rattle.header.specs.declared.Fields.{Fields}
 use Rattle.header.specs.declared.Header.{Header}
 
-abbrev pub bit : Bool → ℕ
-bit flag = cond flag 1 0
+abbrev pub flagBit : Bool → ℕ
+flagBit flag = cond flag 1 0
 
 abbrev pub kindNumber : FrameKind → ℕ
 kindNumber Idle = 0
@@ -23,7 +23,7 @@ kindNumber Type3 = 3
 
 -- d4: four reserved ones, ACK, ACK-valid, the type
 abbrev pub flagsByte : Bool → Bool → FrameKind → ℕ
-flagsByte ack valid kind = 0xF0 + 8 * bit ack + 4 * bit valid + kindNumber kind
+flagsByte ack valid kind = 0xF0 + 8 * flagBit ack + 4 * flagBit valid + kindNumber kind
 
 -- d11: a reserved one, TS-applies, the opcode
 abbrev pub channelByte : ℕ → FastChannel → ℕ
@@ -43,9 +43,7 @@ fieldBytes header =
 
 -- the CRC-16 of d0 to d13 follows them, high byte first
 unfoldable pub headerBytes : Header → List ℕ
-headerBytes header =
-    let sum = crc-16 (fieldBytes header) in
-    fieldBytes header ++ (sum / 256 % 256) ∷ (sum % 256) ∷ []
+headerBytes header = fieldBytes header ++ highFirst 2 (crc-16 (fieldBytes header))
 
 -- with ACK-valid 0, RXFN is 0
 abbrev pub rxfnRule : Bool → ℕ → Bool

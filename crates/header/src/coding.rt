@@ -1,7 +1,7 @@
 // A header as 16 bytes, and what may be sent in them. Frames are built with the same two functions, fields_fit and header_bytes.
 ghost use mathlib.Core.Path.{_≡_};
 ghost use Prim.Native.Nat.{_/_, _%_, _≤_, _<_};
-ghost use Rattle.header.specs.Header.{bit, kindNumber, flagsByte, channelByte, rxfnRule, fieldsFit, fieldBytes, headerBytes};
+ghost use Rattle.header.specs.Header.{flagBit, kindNumber, flagsByte, channelByte, rxfnRule, fieldsFit, fieldBytes, headerBytes};
 use crate::Fields;
 use crate::FrameKind;
 use crate::Header;
@@ -20,7 +20,7 @@ pub fn kind_number(kind: FrameKind) -> u8
 }
 
 pub fn bit_of(flag: bool) -> u8
-    ensures { λ r. ⌜ r ≡ bit flag ⌝ }
+    ensures { λ r. ⌜ r ≡ flagBit flag ⌝ }
     ensures small { λ r. ⌜ r ≤ 1 ⌝ }
 {
     if flag { 1 } else { 0 }

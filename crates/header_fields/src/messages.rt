@@ -1,5 +1,12 @@
-// A fast-channel message as the vectors hold it: its kind, 0 to 8, and three numbers, 0 where it has fewer.
+// A fast-channel message as the vectors hold it: its kind, 0 to 8, and three numbers, 0 where it has fewer. Kinds 0 to 6 are opcodes, with the numbers that
+// C has for them; 7 is a reserved message, whose number is its opcode, be it one that may be sent or not; 8 is none.
 use fast_channel::FastChannel;
+use flat_headers::messages;
+use flat_headers::messages::FlatMessage;
+
+const RESERVED: u8 = 7;
+
+const ABSENT: u8 = 8;
 
 pub struct Message {
     pub kind: u8,
@@ -8,91 +15,46 @@ pub struct Message {
     pub third: u16,
 }
 
-impl Message {
-    fn new(kind: u8, first: u16, second: u16, third: u16) -> Message {
-        Message {
-            kind,
-            first,
-            second,
-            third,
-        }
+// A message that has its opcode for a kind.
+fn of_opcode(message: FlatMessage) -> Message {
+    Message {
+        kind: message.opcode,
+        first: message.first,
+        second: message.second,
+        third: message.third,
     }
 }
 
-fn wide(byte: u8) -> u16 {
-    byte as u16
-}
-
-fn low(number: u16) -> u8 {
-    (number % 256) as u8
+fn of_kind(kind: u8, first: u16) -> Message {
+    Message {
+        kind,
+        first,
+        second: 0,
+        third: 0,
+    }
 }
 
 pub fn numbers(channel: FastChannel) -> Message {
     match channel {
-        FastChannel::CrcErrors(errors) => Message::new(0, errors, 0, 0),
-        FastChannel::ReceivedPower { power, lock } => Message::new(
-            1,
-            power,
-            fast_channel::lock_number(lock),
-            0,
-        ),
-        FastChannel::PowerStatistics { mean, deviation } => {
-            Message::new(2, wide(mean), wide(deviation), 0)
-        }
-        FastChannel::SyncLosses { losses, lock } => Message::new(
-            3,
-            losses,
-            fast_channel::lock_number(lock),
-            0,
-        ),
-        FastChannel::PowerRange { least, greatest } => Message::new(
-            4,
-            wide(least),
-            wide(greatest),
-            0,
-        ),
-        FastChannel::Version {
-            major,
-            minor,
-            patch,
-        } => Message::new(5, wide(major), wide(minor), wide(patch)),
-        FastChannel::CorrectedFrames(frames) => Message::new(6, frames, 0, 0),
-        FastChannel::Reserved(opcode) => Message::new(7, wide(opcode), 0, 0),
-        FastChannel::Absent => Message::new(8, 0, 0, 0),
+        FastChannel::Reserved(opcode) => of_kind(RESERVED, opcode as u16),
+        FastChannel::Absent => of_kind(ABSENT, 0),
+        _ => of_opcode(messages::flat_message(channel)),
     }
 }
 
 // The message of a kind. What no message has is lost: `numbers` then gives other numbers.
 pub fn channel(message: Message) -> FastChannel {
     let kind = message.kind;
-    let first = message.first;
-    let second = message.second;
-    let third = message.third;
-    match kind {
-        0 => FastChannel::CrcErrors(first),
-        1 => FastChannel::ReceivedPower {
-            power: first,
-            lock: fast_channel::lock_of(second),
-        },
-        2 => FastChannel::PowerStatistics {
-            mean: low(first),
-            deviation: low(second),
-        },
-        3 => FastChannel::SyncLosses {
-            losses: first,
-            lock: fast_channel::lock_of(second),
-        },
-        4 => FastChannel::PowerRange {
-            least: low(first),
-            greatest: low(second),
-        },
-        5 => FastChannel::Version {
-            major: low(first),
-            minor: low(second),
-            patch: low(third),
-        },
-        6 => FastChannel::CorrectedFrames(first),
-        7 => FastChannel::Reserved(low(first)),
-        _ => FastChannel::Absent,
+    if kind == RESERVED {
+        return FastChannel::Reserved((message.first % 256) as u8);
     }
+    if kind == ABSENT {
+        return FastChannel::Absent;
+    }
+    messages::message_of(FlatMessage {
+        opcode: kind,
+        first: message.first,
+        second: message.second,
+        third: message.third,
+    })
 }

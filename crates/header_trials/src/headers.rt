@@ -1,5 +1,5 @@
 // The kinds of record that try the level and the bare header.
-use header::CodeAnswer;
+use flat_headers::headers;
 use header_fields::fields;
 use outcome::Outcome;
 use reading::ReadAnswer;
@@ -19,16 +19,9 @@ pub fn level(body: &[u8]) -> Outcome {
     outcome::of(&found, &body[1..])
 }
 
-fn code_number(answer: CodeAnswer) -> u8 {
-    match answer {
-        CodeAnswer::Coded => 0,
-        CodeAnswer::Refused(number) => number,
-    }
-}
-
 // The refusal's number, 0 for none.
 fn number_coded(given: &[u8; 24], bytes: &mut [u8]) -> u8 {
-    code_number(header::code_header(fields::header(given), bytes))
+    headers::code_number(header::code_header(fields::header(given), bytes))
 }
 
 // The refusal's number, and the bytes lent after the call.

@@ -1,27 +1,14 @@
--- What a piece does, in bytes of the list and of the held part; and what a refusal's number of 0 says of the pieces.
-use mathlib.Core.Path.{_≡_, refl, sym, ap, _∙_}
-use mathlib.Core.Bool.{Bool, true, false, cond}
-use mathlib.Core.Option.{Option, none, some}
-use mathlib.Core.List.{List, [], _∷_, _++_, append-assoc}
-use Prim.Native.Nat.{ℕ, _+_, _/_, _%_, _≤_}
+-- What a piece does, in bytes of the list and of the held part.
+use mathlib.Core.Path.{_≡_, refl, sym}
+use mathlib.Core.Bool.{Bool, true, false}
+use mathlib.Core.List.{List, [], _∷_}
+use Prim.Native.Nat.{ℕ, _+_, _≤_}
 use native.Mathlib.Omega.{arith}
-use lib.Dec.{eqb}
 use lib.ListN.{length, length-append}
-use borrow.Author.Tests.{eqb-true}
-use Rattle.lent.proofs.Outcome.{gate}
-use Rattle.link.specs.Link.{Packet, Piece, onPiece, fits}
+use Rattle.link.specs.Link.{Piece, onPiece, fits}
 use Rattle.link.specs.Store.{layoutPackets}
 use Rattle.link.proofs.Hold.{AllFirst, Shape, held-bound}
-use Rattle.packing.specs.Reading.{readFrom, read}
-use Rattle.fitting.specs.Fitting.{piecesRefusal, recordsRefusal}
-use Rattle.fitting.proofs.Refusals.{fits-first}
-
--- ---- what a piece does
-
-pub lists-append : (ps qs : List Packet) → layoutPackets (ps ++ qs) ≡ layoutPackets ps ++ layoutPackets qs
-lists-append [] qs = refl
-lists-append (p ∷ ps) qs =
-    ap (λ l. length p / 256 ∷ length p % 256 ∷ l) (ap (λ l. p ++ l) (lists-append ps qs) ∙ sym (append-assoc p (layoutPackets ps) (layoutPackets qs)))
+use Rattle.fitting.proofs.First.{fits-first}
 
 -- a packet takes two bytes more in the list than its pieces
 pub step-size : (held : List ℕ) (first last : Bool) (bytes : List ℕ)
@@ -59,28 +46,3 @@ first-fits-any held (p ∷ ps) a = sym (fits-first held (p .first) (p .last) (p 
 pub first-shape : (pieces : List Piece) → AllFirst pieces → Shape pieces
 first-shape [] a = tt
 first-shape (p ∷ ps) a = (a .1, a .2)
-
--- ---- an area that is not refused
-
-pub record Accepted (held area : List ℕ) : Type 0 where
-  pub pieces : List Piece
-  pub area-long : length area ≡ 1908
-  pub whole : read area ≡ some pieces
-  pub from-start : readFrom area 0 ≡ some pieces
-  pub fitting : fits held pieces ≡ true
-
-pub accepted : (held area : List ℕ) → recordsRefusal held area ≡ 0 → Accepted held area
-unfolding recordsRefusal read
-accepted held area = go (eqb (length area) 1908) refl (readFrom area 0) refl
-  where
-    go : (t : Bool) → eqb (length area) 1908 ≡ t → (o : Option (List Piece)) → readFrom area 0 ≡ o
-        → piecesRefusal held (cond t (readFrom area 0) none) ≡ 0 → Accepted held area
-    go false e o f z = absurd (omega arith)
-    go true e none f z = absurd (let w : _≡_ {A = ℕ} 14 0 = sym (ap (piecesRefusal held) f) ∙ z in omega arith)
-    go true e (some pieces) f z = record {
-      pieces = pieces;
-      area-long = eqb-true (length area) 1908 e;
-      whole = rw e f;
-      from-start = f;
-      fitting = gate (fits held pieces) 0 15 (omega arith) (sym (ap (piecesRefusal held) f) ∙ z) .0;
-    }

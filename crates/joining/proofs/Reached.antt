@@ -15,26 +15,28 @@ use Rattle.link.specs.Store.{layoutPackets}
 use Rattle.link.proofs.Hold.{AllFirst, Shape}
 use Rattle.packing.specs.declared.Record.{Record}
 use Rattle.packing.specs.declared.Found.the-variants.{At, End, Against}
-use Rattle.packing.specs.Reading.{recordAt, pieceOf, withPiece, readFrom}
-use Rattle.packing.proofs.Reading.{Lies, lies, piece-length, read-record, read-end, read-against, read-shape}
-use Rattle.fitting.specs.Fitting.{recordsRefusal}
-use Rattle.fitting.proofs.Refusals.{part-is}
+use Rattle.packing.specs.Records.{recordAt, pieceOf, withPiece, readFrom, read}
+use Rattle.packing.proofs.Records.{Lies, lies, piece-length, read-record, read-end, read-against, read-shape}
+use Rattle.fitting.proofs.First.{from-start, part-is}
 use Rattle.growing.specs.declared.Joined.{Joined}
 use Rattle.growing.specs.Growing.{Ready, StepOutcome}
-use Rattle.joining.specs.Joining.{joinedStep, JoinOutcome}
-use Rattle.joining.proofs.Pieces.{lists-append, step-size, step-few, step-last, step-held, first-fits-any, first-shape, accepted}
+use Rattle.joining.specs.Joining.{Joinable, JoinOutcome}
+use Rattle.link.proofs.Store.{lists-append}
+use Rattle.joining.proofs.Pieces.{step-size, step-few, step-last, step-held, first-fits-any, first-shape}
 
 -- ---- the invariant
 
 pub record Reached (area : List ℕ) (before : ℕ) (hold₀ list₀ hold list : List ℕ) (at : ℕ) (joined : Joined) : Type 0 where
+  pub all : List Piece
   pub done : List Packet
   pub rest : List Piece
   pub area-long : length area ≡ 1908
   pub low : at ≤ 1908
+  pub whole : read area ≡ some all
   pub to-read : readFrom area at ≡ some rest
   pub shape : Shape rest
   pub fitting : fits (take (joined .held) hold) rest ≡ true
-  pub step : joinedStep (take before hold₀) area ≡ stepThen (record { held = []; out = done }) (onPieces (take (joined .held) hold) rest)
+  pub step : onPieces (take before hold₀) all ≡ stepThen (record { held = []; out = done }) (onPieces (take (joined .held) hold) rest)
   pub held-low : joined .held ≤ 8999
   pub hold-long : length hold ≡ 9000
   pub hold-is : hold ≡ written hold₀ 0 (take (joined .held) hold)
@@ -46,24 +48,24 @@ pub record Reached (area : List ℕ) (before : ℕ) (hold₀ list₀ hold list :
   pub room : joined .listed + joined .held ≤ before + at
   pub few : joined .packets ≤ at
 
-module _ (area : List ℕ) (before : ℕ) (hold₀ list₀ : List ℕ)
-    (pre : (recordsRefusal (take before hold₀) area ≡ 0) × (before ≤ 8999) × (length hold₀ ≡ 9000) × (10907 ≤ length list₀)) where
+module _ (area : List ℕ) (before : ℕ) (hold₀ list₀ : List ℕ) (j : Joinable area before hold₀ list₀) where
   pub begins : Reached area before hold₀ list₀ hold₀ list₀ 0 (record { held = before; packets = 0; listed = 0 })
-  unfolding joinedStep
   begins =
-      let a = accepted (take before hold₀) area (pre .0) in
+      let start = from-start area (j .pieces) (j .whole) in
       record {
+        all = j .pieces;
         done = [];
-        rest = a .pieces;
-        area-long = a .area-long;
+        rest = j .pieces;
+        area-long = start .0;
         low = omega arith;
-        to-read = a .from-start;
-        shape = read-shape area (a .pieces) (a .whole);
-        fitting = a .fitting;
-        step = rw (a .whole);
-        held-low = pre .1;
-        hold-long = pre .2;
-        hold-is = sym (written-own hold₀ before (omega arith));
+        whole = j .whole;
+        to-read = start .1;
+        shape = read-shape area (j .pieces) (j .whole);
+        fitting = j .fitting;
+        step = refl;
+        held-low = j .low;
+        hold-long = j .long;
+        hold-is = sym (written-own hold₀ before (omega (arith, j .low, j .long)));
         hold-kept = λ h. refl;
         list-is = sym (written-nothing list₀ 0);
         packets = refl;
@@ -84,16 +86,17 @@ module _ {area : List ℕ} {before : ℕ} {hold₀ list₀ hold list : List ℕ}
 
   -- at the end of the records nothing is left to read
   pub ends : recordAt area at ≡ End → JoinOutcome area before hold₀ list₀ joined hold list
-  ends here =
+  ends here pieces e =
+      let are : r .all ≡ pieces = let f : some (r .all) ≡ some pieces = sym (r .whole) ∙ e in cc in
       let held = take (joined .held) hold in
       let none-left : r .rest ≡ [] = let e : some (r .rest) ≡ some [] = sym (r .to-read) ∙ read-end area at here in cc in
-      let step : joinedStep (take before hold₀) area ≡ record { held = held; out = r .done } =
-      r .step ∙ ap (λ ps. stepThen (record { held = []; out = r .done }) (onPieces held ps)) none-left
+      let step : onPieces (take before hold₀) pieces ≡ record { held = held; out = r .done } =
+      sym (ap (onPieces (take before hold₀)) are) ∙ r .step ∙ ap (λ ps. stepThen (record { held = []; out = r .done }) (onPieces held ps)) none-left
       ∙ ap (λ out. record { held = held; out = out }) (append-nil (r .done)) in
       record {
         held = sym (ap (λ (s : Step). length (s .held)) step ∙ held-length);
-        packets = r .packets ∙ sym (ap (λ (s : Step). length (s .out)) step);
-        listed = r .listed ∙ sym (ap (λ (s : Step). length (layoutPackets (s .out))) step);
+        packets = r .packets ∙ sym (ap (λ (s : Step). length (s .out)) step) ∙ sym (zero-add _);
+        listed = r .listed ∙ sym (ap (λ (s : Step). length (layoutPackets (s .out))) step) ∙ sym (zero-add _);
         hold-bytes = r .hold-is ∙ sym (ap (λ (s : Step). written hold₀ 0 (s .held)) step);
         list-bytes = r .list-is ∙ sym (ap (λ (s : Step). written list₀ 0 (layoutPackets (s .out))) step);
       }
@@ -190,7 +193,7 @@ module _ {area : List ℕ} {before : ℕ} {hold₀ list₀ hold list : List ℕ}
           ∙ written-append list₀ 0 d o (omega (arith, size, out .listed, r .listed, r .area-long, lie .inside))
           ∙ ap (written list₀ 0) (sym (lists-append (r .done) (step′ .out)))
 
-      step-next : joinedStep (take before hold₀) area ≡ stepThen (record { held = []; out = r .done ++ step′ .out }) (onPieces (take (next .held) hold′) (behind .pieces))
+      step-next : onPieces (take before hold₀) (r .all) ≡ stepThen (record { held = []; out = r .done ++ step′ .out }) (onPieces (take (next .held) hold′) (behind .pieces))
       step-next =
           let after = onPieces (step′ .held) (behind .pieces) in
           r .step
@@ -202,10 +205,12 @@ module _ {area : List ℕ} {before : ℕ} {hold₀ list₀ hold list : List ℕ}
       goes-on =
           let first = shape-behind (r .rest) (behind .is) (r .shape) in
           record {
+            all = r .all;
             done = r .done ++ step′ .out;
             rest = behind .pieces;
             area-long = r .area-long;
             low = omega (arith, lie .inside, r .area-long);
+            whole = r .whole;
             to-read = behind .to-read;
             shape = first-shape (behind .pieces) first;
             fitting = first-fits-any (take (next .held) hold′) (behind .pieces) first;

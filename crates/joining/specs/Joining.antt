@@ -1,27 +1,31 @@
--- What the records of a DATA area that is not refused do to the held part, the hold's bytes and the list (01, "Receiving"), over `onPieces` of `Link`.
+-- What the code does with the records of a DATA area that is not refused: the contract of the loop that joins them, over `StepOutcome` of crate growing.
+-- Whoever reads `ApplyOutcome` of crate receiver need not believe anything here.
 use mathlib.Core.Path.{_≡_}
-use mathlib.Core.Option.{Option, none, some}
-use mathlib.Core.List.{List, []}
-use Prim.Native.Nat.{ℕ}
+use mathlib.Core.Bool.{true}
+use mathlib.Core.Option.{some}
+use mathlib.Core.List.{List}
+use Prim.Native.Nat.{ℕ, _≤_}
 use lib.ListN.{length, take}
-use Rattle.lent.specs.Written.{written}
-use Rattle.link.specs.Link.{Piece, Step, onPieces}
-use Rattle.link.specs.Store.{layoutPackets}
-use Rattle.packing.specs.Reading.{read}
+use Rattle.basics.specs.Sizes.{mostHeld, holdSize, listSize}
+use Rattle.link.specs.Link.{Piece, fits, onPieces}
+use Rattle.packing.specs.Records.{read}
 use Rattle.growing.specs.declared.Joined.{Joined}
+use Rattle.growing.specs.Growing.{StepOutcome}
 
--- what the pieces do; where the area has none it is refused, and no pieces are not used
-abbrev pub orNone : Option (List Piece) → List Piece
-orNone none = []
-orNone (some pieces) = pieces
+-- before the first record: so much is held, and no packet is listed
+abbrev pub unjoined : ℕ → Joined
+unjoined held = record { held = held; packets = 0; listed = 0 }
 
-unfoldable pub joinedStep : List ℕ → List ℕ → Step
-joinedStep held area = onPieces held (orNone (read area))
+-- The area is read, its first record fits the `held` bytes of the hold, and the lent bytes have their sizes.
+pub record Joinable (area : List ℕ) (held : ℕ) (hold list : List ℕ) : Type 0 where
+  pub pieces : List Piece
+  pub whole : read area ≡ some pieces
+  pub fitting : fits (take held hold) pieces ≡ true
+  pub low : held ≤ mostHeld
+  pub long : length hold ≡ holdSize
+  pub room : listSize ≤ length list
 
--- The part now held is the front of the hold, and the packets completed are the front of the list; all other bytes keep their values.
-pub record JoinOutcome (area : List ℕ) (before : ℕ) (hold list : List ℕ) (r : Joined) (hold′ list′ : List ℕ) : Type 0 where
-  pub held : r .held ≡ length (joinedStep (take before hold) area .held)
-  pub packets : r .packets ≡ length (joinedStep (take before hold) area .out)
-  pub listed : r .listed ≡ length (layoutPackets (joinedStep (take before hold) area .out))
-  pub hold-bytes : hold′ ≡ written hold 0 (joinedStep (take before hold) area .held)
-  pub list-bytes : list′ ≡ written list 0 (layoutPackets (joinedStep (take before hold) area .out))
+-- the pieces that stand in the area have done what they do
+abbrev pub JoinOutcome : List ℕ → ℕ → List ℕ → List ℕ → Joined → List ℕ → List ℕ → Type 0
+JoinOutcome area held hold list r hold′ list′ =
+    (pieces : List Piece) → read area ≡ some pieces → StepOutcome (onPieces (take held hold) pieces) (unjoined held) hold list r hold′ list′

@@ -1,15 +1,11 @@
 // Joining the records of a DATA area to what is held, one after the other (01, "Receiving").
 use growing::Joined;
 use packing::Found;
-ghost use mathlib.Core.Path.{_≡_};
-ghost use Prim.Native.Nat.{_≤_};
-ghost use lib.ListN.{length, take};
-ghost use Rattle.fitting.specs.Fitting.{recordsRefusal};
-ghost use Rattle.joining.specs.Joining.{JoinOutcome};
+ghost use Rattle.joining.specs.Joining.{Joinable, JoinOutcome};
 
 // Joins the records of a DATA area that is not refused, in order; `before` bytes of the hold are held.
 pub fn join(area: &[u8], before: usize, hold: &mut [u8], list: &mut [u8]) -> Joined
-    requires { ⌜ (recordsRefusal (take before (now hold)) (now area) ≡ 0) × (before ≤ 8999) × (length (now hold) ≡ 9000) × (10907 ≤ length (now list)) ⌝ }
+    requires { ⌜ Joinable (now area) before (now hold) (now list) ⌝ }
     ensures { λ r. ⌜ JoinOutcome (now (area .entry)) before (now (hold .entry)) (now (list .entry)) r (now (hold .exit)) (now (list .exit)) ⌝ }
 {
     let mut at: usize = 0;

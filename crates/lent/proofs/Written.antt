@@ -1,12 +1,11 @@
--- Laws of `written`, and of a loop that writes one byte a turn.
+-- Laws of `written`.
 use mathlib.Core.Path.{_≡_, sym, ap, _∙_}
 use mathlib.Core.List.{List, [], _++_, append-assoc, append-nil}
 use Prim.Native.Nat.{ℕ, _+_, _-_, _≤_, _<_}
 use native.Mathlib.Nat.{add-assoc, add-zero, zero-add}
-use native.Mathlib.Numerals.{add-one}
 use native.Mathlib.Omega.{arith}
-use lib.ListN.{length, getD, take, drop, set, length-take, length-drop, length-append, drop-of-length-le, take-append-drop, List·getD-append}
-use lib.Seq.{paste, paste-zero, paste-suc, take-append-le, take-append-add, drop-append-le, drop-append-add, getD-append-add, getD-drop, getD-take, take-at, drop-at, drop-drop, drop-length, take-length, take-all, length-take-le}
+use lib.ListN.{length, getD, take, drop, length-take, length-drop, length-append, drop-of-length-le, take-append-drop, List·getD-append}
+use lib.Seq.{take-append-le, take-append-add, drop-append-le, drop-append-add, getD-append-add, getD-drop, getD-take, take-at, drop-at, drop-drop, drop-length, take-length, take-all, length-take-le}
 use Rattle.basics.specs.Lists.{Bytes}
 use Rattle.basics.proofs.Lists.{bytes-append, bytes-take, bytes-drop}
 use Rattle.lent.specs.Written.{written}
@@ -67,17 +66,6 @@ unfolding written
 copied-part d at s h =
     let e : length (drop at d) ≤ length d - at = simp length-drop (omega arith) in
     rw (take-length s, take-all (length d - at) (drop at d) e, drop-of-length-le (drop at d) {i = length d - at} e, append-nil, drop-drop) (sym (append-assoc (take at d) s (drop (at + length s) d)))
-
--- ---- a loop that writes s from at, one byte a turn: after j turns it is `paste d at s j` (`lib.Seq`)
-pub paste-start : (d : List ℕ) (at : ℕ) (s : List ℕ) → d ≡ paste d at s 0
-paste-start d at s = paste-zero d at s
-
-pub paste-turn : (d : List ℕ) (at : ℕ) (s : List ℕ) (j v : ℕ) → at + j < length d → j < length s → v ≡ getD s j 0 → set (paste d at s j) (at + j) v ≡ paste d at s (j + 1)
-paste-turn d at s j v hd hs e = rw (e, add-one j) (paste-suc d at s j 0 hd hs)
-
-pub paste-end : (d : List ℕ) (at : ℕ) (s : List ℕ) (j : ℕ) → j ≡ length s → paste d at s j ≡ written d at s
-unfolding written
-paste-end d at s j e = rw (e, take-length)
 
 -- as many bytes as the buffer has
 pub written-whole : (d s : List ℕ) → length s ≡ length d → written d 0 s ≡ s

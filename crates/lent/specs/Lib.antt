@@ -1,3 +1,3 @@
 pub mod Written
-pub mod Outcome
+pub mod Refusals
 pub mod Numbers

@@ -2,9 +2,9 @@
 pub mod numbers;
 
 ghost use mathlib.Core.Path.{_≡_};
-ghost use Prim.Native.Nat.{_+_, _-_, _≤_};
+ghost use Prim.Native.Nat.{_+_, _≤_};
 ghost use lib.ListN.{length};
-ghost use Rattle.basics.specs.Lists.{zeros, same};
+ghost use Rattle.basics.specs.Lists.{same};
 ghost use Rattle.lent.specs.Written.{written};
 
 // Writes all of source into buffer from index at, and touches nothing else.
@@ -13,19 +13,6 @@ pub fn write_at(buffer: &mut [u8], at: usize, source: &[u8])
     ensures { λ _. ⌜ now (buffer .exit) ≡ written (now (buffer .entry)) at (now (source .entry)) ⌝ }
 {
     bytes::copy(source, &mut buffer[at..]);
-}
-
-// Writes zeros from index at to the end.
-pub fn clear_from(buffer: &mut [u8], at: usize)
-    requires { ⌜ at ≤ length (now buffer) ⌝ }
-    ensures { λ _. ⌜ now (buffer .exit) ≡ written (now (buffer .entry)) at (zeros (length (now (buffer .entry)) - at)) ⌝ }
-{
-    let n = buffer.len() - at;
-    let mut i: usize = 0;
-    while i < n {
-        buffer[at + i] = 0;
-        i = i + 1;
-    }
 }
 
 // Whether two parts hold the same bytes.

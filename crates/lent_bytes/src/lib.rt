@@ -2,7 +2,9 @@
 ghost use mathlib.Core.Path.{_≡_};
 ghost use Prim.Native.Nat.{_≤_};
 ghost use lib.ListN.{length};
+use basics::sizes;
 use outcome::Outcome;
+use vectors::digest;
 use vectors::numbers;
 
 // What is lent to a call and compared after it: more bytes than a frame or an area has, so that a byte written past its end
@@ -23,9 +25,18 @@ fn repeat(pattern: &[u8], bytes: &mut [u8]) {
 }
 
 // An area, as a record holds it: a pattern that is repeated up to 1,908 bytes.
-pub fn area(pattern: &[u8]) -> [u8; 1908] {
-    let mut area = [0u8; 1908];
+pub fn area(pattern: &[u8]) -> [u8; sizes::AREA_SIZE] {
+    let mut area = [0u8; sizes::AREA_SIZE];
     repeat(pattern, &mut area);
+    area
+}
+
+// An area by its first bytes; behind them it has zeros.
+pub fn zeros_behind(front: &[u8]) -> [u8; sizes::AREA_SIZE]
+    requires { ⌜ length (now front) ≤ 1908 ⌝ }
+{
+    let mut area = [0u8; sizes::AREA_SIZE];
+    lent::write_at(&mut area, 0, front);
     area
 }
 
@@ -67,6 +78,15 @@ pub fn change(changes: &[u8], bytes: &mut [u8]) {
         change_one(&changes[3 * i..3 * i + 3], bytes);
         i += 1;
     }
+}
+
+// The digest of bytes after some changes, and the changes: they are made, and compared.
+pub fn change_outcome(body: &[u8], bytes: &mut [u8]) -> Outcome {
+    if body.len() < 8 {
+        return Outcome::Malformed;
+    }
+    change(&body[8..], bytes);
+    digest::outcome(bytes, &body[0..8])
 }
 
 // A frame with some bytes changed.

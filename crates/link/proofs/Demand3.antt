@@ -3,9 +3,11 @@ use mathlib.Core.Path.{_≡_}
 use mathlib.Core.Option.{none}
 use mathlib.Core.List.{List, []}
 use Prim.Native.Nat.{ℕ}
-use Rattle.link.specs.Link.{ArePackets, Queue, empty, Call, putsOf, framesOf, queueAfter, fresh}
+use Rattle.link.specs.Link.{ArePackets, Queue, empty}
+use Rattle.link.proofs.Machine.{Call, putsOf, framesOf, queueAfter, fresh}
 use Rattle.link.specs.Ledger.{Mark, Limit}
-use Rattle.link.specs.Demand3.{Demand3, deliver}
+use Rattle.link.specs.Demand3.{Demand3}
+use Rattle.link.proofs.Machine.{deliver}
 use Rattle.link.proofs.Reassembly.{told, told-taken, told-missed, right, fit}
 use Rattle.link.proofs.Numbers.{same}
 use Rattle.link.proofs.Sender.{Run, run}

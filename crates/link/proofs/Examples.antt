@@ -1,16 +1,17 @@
 -- A worked run, computed, with a loss: demand 3 speaks of runs that matter. And what the limit on lost frames is for.
-use mathlib.Core.Path.{_≡_, refl}
+use mathlib.Core.Path.{_≡_, refl, sym, _∙_}
 use mathlib.Core.Bool.{Bool, true, false, cond}
 use mathlib.Core.Option.{some}
-use mathlib.Core.List.{List, [], _∷_}
-use Prim.Native.Nat.{ℕ, _+_, _-_, _%_, _≤_}
+use mathlib.Core.List.{List, [], _∷_, map, append-nil}
+use Prim.Native.Nat.{ℕ, _+_, _-_, _%_, _≤_, _<_}
 use native.Mathlib.Omega.{arith}
 use native.Mathlib.Decide.{decLe}
 use lib.Dec.{eqb}
 use borrow.Author.Tests.{eqb-true}
-use Rattle.link.specs.Link.{Queue, empty, Call, put, next, putsOf, framesOf, queueAfter, Piece, Receiver, taken, receive, fresh}
+use Rattle.link.specs.Link.{ArePackets, Queue, empty, Piece, taken}
+use Rattle.link.proofs.Machine.{Call, put, next, putsOf, framesOf, queueAfter, Receiver, receive, fresh, deliver}
 use Rattle.link.specs.Ledger.{ledger, unsent, Mark, lost, accepted, Limit}
-use Rattle.link.specs.Demand3.{Demand3, deliver}
+use Rattle.link.specs.Demand3.{packetOf, Demand3}
 use Rattle.link.proofs.Demand3.{demand3}
 
 -- Each frame takes two bytes. Packets of 3, 2, 2 and 2 bytes are put, and four frames are built: the last packet is begun and not ended.
@@ -47,14 +48,19 @@ only-one i e = go (eqb i 1) refl e
     go false t e = let z : _≡_ {A = ℕ} 0 1 = cc in absurd (omega arith)
 
 within : Limit oneLost
-within a b h p q l = go (decLe (b - a - 1) 65535)
+within a b h p q l = go (decLe (b - a) 65536)
   where
-    go : Dec (b - a - 1 ≤ 65535) → b - a - 1 ≤ 65535
-    go (yes y) = y
+    go : Dec (b - a ≤ 65536) → b - a - 1 < 65536
+    go (yes y) = omega arith
     go (no y) = absurd (omega (arith, only-one (a + 1) (l (a + 1) (omega arith) (omega arith)), only-one (a + 2) (l (a + 2) (omega arith) (omega arith))))
 
 meets : Demand3 (putsOf calls) frames (queueAfter two empty calls) oneLost (deliver oneLost 0 fresh frames)
 meets = demand3 two calls oneLost (omega arith) within
+
+-- Of every run in which all is sent: the ledger has the packets put, in their order.
+all-in-turn : (load : Queue → ℕ) (run : List Call) (mark : ℕ → Mark) → ArePackets (putsOf run) → Limit mark
+    → unsent (framesOf load empty run) (queueAfter load empty run) ≡ [] → map packetOf (ledger (framesOf load empty run)) ≡ putsOf run
+all-in-turn load run mark allowed limit e = sym (append-nil (map packetOf (ledger (framesOf load empty run)))) ∙ rw e at (demand3 load run mark allowed limit .in-order)
 
 -- After frame 0 with a first piece, 65,535 lost frames are seen ..
 abbrev holding : Receiver

@@ -8,7 +8,8 @@ use native.Mathlib.Omega.{arith}
 use lib.Dec.{leb}
 use lib.ListN.{length, length-append}
 use borrow.Author.Tests.{leb-true}
-use Rattle.link.specs.Link.{Packet, ArePackets, Piece, onPiece, onPieces, mostJoined, fitsPiece, fits, Receiver, missed, heldAfter, receiveWith, receive}
+use Rattle.link.specs.Link.{Packet, ArePackets, Piece, onPiece, onPieces, mostJoined, fitsPiece, fits, missed, heldAfter}
+use Rattle.link.proofs.Machine.{Receiver, receiveWith, receive}
 use Rattle.link.proofs.Reassembly.{Filled}
 
 -- Pieces as any accepted area has them: only the first may go on with a packet, and none is longer than 8,999 bytes.

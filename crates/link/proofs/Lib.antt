@@ -1,3 +1,4 @@
+pub mod Machine
 pub mod Marks
 pub mod Reassembly
 pub mod Numbers

@@ -6,9 +6,10 @@ use mathlib.Core.List.{List, [], _∷_}
 use Prim.Native.Nat.{ℕ, suc, _+_, _%_, _<_}
 use native.Mathlib.Omega.{arith}
 use native.Mathlib.Decide.{ℕ-discrete}
-use Rattle.link.specs.Link.{Piece, onPieces, fits, Receiver, Answer, taken, missed, heldAfter, receive, fresh}
+use Rattle.link.specs.Link.{Piece, onPieces, fits, Answer, taken, missed, heldAfter}
+use Rattle.link.proofs.Machine.{Receiver, receive, fresh}
 use Rattle.link.specs.Ledger.{Mark, lost, accepted, lostBefore, anyBefore, gap, Limit}
-use Rattle.link.specs.Demand3.{deliver}
+use Rattle.link.proofs.Machine.{deliver}
 use Rattle.link.proofs.Reassembly.{told, Fit}
 
 module _ (mark : ℕ → Mark) (limit : Limit mark) where

@@ -1,7 +1,7 @@
 -- The queue's bytes both ways: what is laid out is read back, and what is read is a queue that is laid out as the very bytes.
 use mathlib.Core.Path.{_≡_, refl, ap, sym, _∙_}
 use mathlib.Core.Logic.{_↔_}
-use mathlib.Core.Bool.{Bool, true, false, cond, _&&_}
+use mathlib.Core.Bool.{Bool, true, false, cond}
 use mathlib.Core.Option.{Option, none, some}
 use mathlib.Core.List.{List, [], _∷_, _++_}
 use Prim.Native.Nat.{ℕ, _+_, _-_, _*_, _/_, _%_, _≤_, _<_}
@@ -12,11 +12,12 @@ use lib.Dec.{leb}
 use borrow.Author.Tests.{leb-true, le-leb, lt-leb}
 use Rattle.basics.specs.Lists.{Bytes}
 use Rattle.basics.proofs.Lists.{bytes-drop}
-use Rattle.basics.proofs.Tests.{left-true, right-true}
-use Rattle.link.specs.Link.{Packet, IsPacket, ArePackets, Queue, IsRest, IsQueue, withPacket}
-use Rattle.link.specs.Store.{marked, layoutPackets, layoutRest, layout, markAt, isLength, withFront, packetsIn, withRest, parseBegun, parse}
+use Rattle.link.specs.Link.{Packet, IsPacket, ArePackets, Queue, IsRest, IsQueue}
+use Rattle.link.proofs.Machine.{withPacket}
+use Rattle.link.specs.Store.{marked, layoutPackets, layoutRest, layout}
+use Rattle.link.specs.Parsing.{markAt, isLength, withFront, packetsIn, withRest, parseBegun, parse}
 use Rattle.link.proofs.Sender.{put-queue}
-use Rattle.link.proofs.Store.{put-lays, mark-back, packets-step, packets-end}
+use Rattle.link.proofs.Store.{put-lays, mark-back, Sized, sized, packets-step, packets-end}
 
 -- ---- what is laid out is read back
 
@@ -31,15 +32,15 @@ is-length : (most n : ℕ) (x y : ℕ) (p l : List ℕ) → length p ≡ n → 1
 is-length most n x y p l e low high =
     rw (le-leb 1 n low, le-leb n most high) (le-leb (2 + n) (length (x ∷ y ∷ (p ++ l))) (omega (arith, length-append p l)))
 
-packets-back : (ps : List Packet) → ArePackets ps → packetsIn (layoutPackets ps) ≡ some ps
+pub packets-back : (ps : List Packet) → ArePackets ps → packetsIn (layoutPackets ps) ≡ some ps
 packets-back [] h = packets-end [] 0 (omega arith)
 packets-back (p ∷ ps) h =
     packets-step (layoutPackets (p ∷ ps)) (omega arith)
     ∙ rw (
-      mark-back (length p) (p ++ layoutPackets ps),
-      is-length 9000 (length p) (length p / 256) (length p % 256) p (layoutPackets ps) refl (h .0 .0) (h .0 .1),
-      front (length p / 256) (length p % 256) p (layoutPackets ps),
-      behind (length p / 256) (length p % 256) p (layoutPackets ps),
+      mark-back (length p) (p ++ layoutPackets ps) (omega (arith, h .0 .1)),
+      is-length 9000 (length p) (length p / 256 % 256) (length p % 256) p (layoutPackets ps) refl (h .0 .0) (h .0 .1),
+      front (length p / 256 % 256) (length p % 256) p (layoutPackets ps),
+      behind (length p / 256 % 256) (length p % 256) p (layoutPackets ps),
       packets-back ps (h .1),
     )
 
@@ -51,17 +52,17 @@ parse-back q h = go (q .rest) (q .waiting) (h .0) (h .1)
         → parse (layoutRest rest ++ layoutPackets ps) ≡ some (record { rest = rest; waiting = ps })
     go none [] k a = ap (withRest none) (packets-back [] tt)
     go none (p ∷ ps) k a =
-        rw (packets-back (p ∷ ps) a, mark-back (length p) (p ++ layoutPackets ps), lt-leb 32768 (length p) (omega (arith, a .0 .1)))
+        rw (packets-back (p ∷ ps) a, mark-back (length p) (p ++ layoutPackets ps) (omega (arith, a .0 .1)), lt-leb 32768 (length p) (omega (arith, a .0 .1)))
     go (some r) ps k a =
         let m = 32768 + length r in
         let e : m - 32768 ≡ length r = omega arith in
         rw (
-          mark-back m (r ++ layoutPackets ps),
+          mark-back m (r ++ layoutPackets ps) (omega (arith, k .1)),
           le-leb 32768 m (omega arith),
           e,
-          is-length 8999 (length r) (m / 256) (m % 256) r (layoutPackets ps) refl (k .0) (k .1),
-          front (m / 256) (m % 256) r (layoutPackets ps),
-          behind (m / 256) (m % 256) r (layoutPackets ps),
+          is-length 8999 (length r) (m / 256 % 256) (m % 256) r (layoutPackets ps) refl (k .0) (k .1),
+          front (m / 256 % 256) (m % 256) r (layoutPackets ps),
+          behind (m / 256 % 256) (m % 256) r (layoutPackets ps),
           packets-back ps a,
         )
 
@@ -85,29 +86,15 @@ rest-some rest (some ps) q e =
     let f : record { rest = rest; waiting = ps } ≡ q = cc in
     (sym (ap (λ (x : Queue). x .rest) f), ap (λ (x : Queue). some (x .waiting)) f)
 
--- what a mark of n says of the bytes from it on
-pub record Sized (most n : ℕ) (a : List ℕ) : Type 0 where
-  pub low : 1 ≤ n
-  pub high : n ≤ most
-  pub room : 2 + n ≤ length a
-
-sized : (most n : ℕ) (a : List ℕ) → isLength most n a ≡ true → Sized most n a
-sized most n a e =
-    let f = left-true (leb 1 n && leb n most) (leb (2 + n) (length a)) e in
-    record {
-      low = leb-true 1 n (left-true (leb 1 n) (leb n most) f);
-      high = leb-true n most (right-true (leb 1 n) (leb n most) f);
-      room = leb-true (2 + n) (length a) (right-true (leb 1 n && leb n most) (leb (2 + n) (length a)) e);
-    }
-
-length-front : (most n : ℕ) (a : List ℕ) → Sized most n a → length (take n (drop 2 a)) ≡ n
+-- the packet behind a mark of n
+length-front : (most n : ℕ) (a : List ℕ) → Sized most n 0 (length a) → length (take n (drop 2 a)) ≡ n
 length-front most n a s = simp (length-take, length-drop) (omega (arith, s .room))
 
 -- the first packet, and the others
 record Front (a : List ℕ) (p : Packet) (ps : List Packet) : Type 0 where
   is : p ≡ take (markAt a) (drop 2 a)
   goes-on : packetsIn (drop (2 + markAt a) a) ≡ some ps
-  says : Sized 9000 (markAt a) a
+  says : Sized 9000 (markAt a) 0 (length a)
 
 packets-read : (a : List ℕ) (ps : List Packet) → 0 < length a → packetsIn a ≡ some ps
     → (isLength 9000 (markAt a) a ≡ true) × (withFront (take (markAt a) (drop 2 a)) (packetsIn (drop (2 + markAt a) a)) ≡ some ps)
@@ -123,11 +110,11 @@ packets-front (x ∷ l) p ps e =
     let a = x ∷ l in
     let c = packets-read a (p ∷ ps) (omega arith) e in
     let f = front-some (take (markAt a) (drop 2 a)) (packetsIn (drop (2 + markAt a) a)) p ps (c .1) in
-    record { is = f .0; goes-on = f .1; says = sized 9000 (markAt a) a (c .0) }
+    record { is = f .0; goes-on = f .1; says = sized a 0 (markAt a) 9000 (c .0) }
 
 -- the same of a queue: a packet is begun, or none is
 pub data Parsed (a : List ℕ) (q : Queue) : Type 0 where
-  begunFront : 32768 ≤ markAt a → Sized 8999 (markAt a - 32768) a → q .rest ≡ some (take (markAt a - 32768) (drop 2 a))
+  begunFront : 32768 ≤ markAt a → Sized 8999 (markAt a - 32768) 0 (length a) → q .rest ≡ some (take (markAt a - 32768) (drop 2 a))
       → packetsIn (drop (2 + (markAt a - 32768)) a) ≡ some (q .waiting) → Parsed a q
   plainFront : q .rest ≡ none → packetsIn a ≡ some (q .waiting) → Parsed a q
 
@@ -142,7 +129,7 @@ parsed a q = go (leb 32768 (markAt a)) refl
     go true t e =
         let c = cond-some (isLength 8999 n a) (withRest (some (take n (drop 2 a))) (packetsIn (drop (2 + n) a))) q e in
         let r = rest-some (some (take n (drop 2 a))) (packetsIn (drop (2 + n) a)) q (c .1) in
-        begunFront (leb-true 32768 (markAt a) t) (sized 8999 n a (c .0)) (r .0) (r .1)
+        begunFront (leb-true 32768 (markAt a) t) (sized a 0 n 8999 (c .0)) (r .0) (r .1)
     go false t e = let r = rest-some none (packetsIn a) q e in plainFront (r .0) (r .1)
 
 -- ---- what is read is a queue ..
@@ -168,7 +155,7 @@ pub marked-back : (a : List ℕ) → Bytes a → 2 ≤ length a → marked (mark
 marked-back [] b h = absurd (omega arith)
 marked-back (x ∷ []) b h = absurd (omega arith)
 marked-back (x ∷ y ∷ l) b h =
-    let high : (x * 256 + y) / 256 ≡ x = omega (arith, b .1 .0) in
+    let high : (x * 256 + y) / 256 % 256 ≡ x = omega (arith, b .0, b .1 .0) in
     let low : (x * 256 + y) % 256 ≡ y = omega (arith, b .1 .0) in
     rw (high, low)
 

@@ -8,7 +8,8 @@ use native.Mathlib.Omega.{arith}
 use lib.ListN.{length, take, length-take, length-drop, length-append, take-append-drop}
 use lib.Dec.{leb}
 use borrow.Author.Tests.{leb-false, le-leb}
-use Rattle.link.specs.Link.{Packet, IsPacket, ArePackets, Queue, IsRest, IsQueue, withPacket, Cut, pieceThen, cutPacket, cutWaiting, cutRest, cutFrom, cut, Call, put, next, putsOf, framesOf, queueAfter, mostJoined, fits}
+use Rattle.link.specs.Link.{Packet, IsPacket, ArePackets, Queue, IsRest, IsQueue, Cut, pieceThen, mostJoined, fits}
+use Rattle.link.proofs.Machine.{withPacket, cutPacket, cutWaiting, cutRest, cutFrom, cut, Call, put, next, putsOf, framesOf, queueAfter}
 use Rattle.link.specs.Ledger.{Begun, traceFrame, trace, sentOf, unsentFrom}
 use Rattle.link.specs.Demand3.{packetOf}
 use Rattle.link.proofs.Reassembly.{Filled, AllFilled, AllFit, fits-nil}

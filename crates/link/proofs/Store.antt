@@ -5,28 +5,32 @@ use mathlib.Core.Option.{Option, none, some}
 use mathlib.Core.List.{List, [], _∷_, _++_, append-assoc, append-nil}
 use Prim.Native.Nat.{ℕ, zero, suc, _+_, _-_, _*_, _≤_, _<_}
 use native.Mathlib.Omega.{arith}
-use native.Mathlib.Nat.{div-add-mod', add-zero, add-assoc}
+use native.Mathlib.Nat.{add-zero, add-assoc}
 use native.Mathlib.Decide.{decLe}
 use lib.ListN.{length, getD, take, drop, length-drop, drop-of-length-le}
 use lib.Seq.{drop-drop, getD-drop}
 use lib.Dec.{leb}
-use borrow.Author.Tests.{le-leb, lt-leb}
-use Rattle.link.specs.Link.{Packet, Queue, withPacket}
-use Rattle.link.specs.Store.{marked, layoutPackets, layout, markAt, isLength, withFront, parseWaiting, packetsIn, withRest, parse, isSome, isWhole}
+use borrow.Author.Tests.{leb-true, le-leb, lt-leb}
+use Rattle.basics.proofs.Tests.{left-true, right-true}
+use Rattle.link.specs.Link.{Packet, Queue}
+use Rattle.link.proofs.Machine.{withPacket}
+use Rattle.link.specs.Store.{marked, layoutPackets, layoutRest, layout}
+use Rattle.basics.specs.Lists.{isSome}
+use Rattle.link.specs.Parsing.{markAt, isLength, withFront, parseWaiting, packetsIn, withRest, parse, isWhole}
 
 -- a mark that is written is read back
-pub mark-back : (mark : ℕ) (bytes : List ℕ) → markAt (marked mark bytes) ≡ mark
-mark-back mark bytes = div-add-mod' mark 256
+pub mark-back : (mark : ℕ) (bytes : List ℕ) → mark < 65536 → markAt (marked mark bytes) ≡ mark
+mark-back mark bytes h = omega arith
 
 -- ---- putting: the mark and the packet stand behind all others
 
-waiting-lays : (ps : List Packet) (p : Packet) → layoutPackets (ps ++ (p ∷ [])) ≡ layoutPackets ps ++ marked (length p) p
-waiting-lays [] p = rw append-nil
-waiting-lays (q ∷ ps) p = rw (waiting-lays ps p, append-assoc)
+pub lists-append : (ps qs : List Packet) → layoutPackets (ps ++ qs) ≡ layoutPackets ps ++ layoutPackets qs
+lists-append [] qs = refl
+lists-append (p ∷ ps) qs = rw (lists-append ps qs, append-assoc (marked (length p) p) (layoutPackets ps) (layoutPackets qs))
 
 pub put-lays : (q : Queue) (p : Packet) → layout (withPacket q p) ≡ layout q ++ marked (length p) p
 unfolding layout
-put-lays q p = rw (waiting-lays, append-assoc)
+put-lays q p = rw (lists-append (q .waiting) (p ∷ []), append-nil, append-assoc (layoutRest (q .rest)) (layoutPackets (q .waiting)) (marked (length p) p))
 
 -- ---- reading goes from mark to mark
 
@@ -54,6 +58,21 @@ markFrom a i = getD a i 0 * 256 + getD a (i + 1) 0
 
 abbrev pub isLengthFrom : ℕ → ℕ → List ℕ → ℕ → Bool
 isLengthFrom most n a i = leb 1 n && leb n most && leb (i + 2 + n) (length a)
+
+-- what a length that was judged says
+pub record Sized (most n at long : ℕ) : Type 0 where
+  pub low : 1 ≤ n
+  pub high : n ≤ most
+  pub room : at + 2 + n ≤ long
+
+pub sized : (bytes : List ℕ) (at n most : ℕ) → isLengthFrom most n bytes at ≡ true → Sized most n at (length bytes)
+sized bytes at n most e =
+    let front = left-true (leb 1 n && leb n most) (leb (at + 2 + n) (length bytes)) e in
+    record {
+      low = leb-true 1 n (left-true (leb 1 n) (leb n most) front);
+      high = leb-true n most (right-true (leb 1 n) (leb n most) front);
+      room = leb-true (at + 2 + n) (length bytes) (right-true (leb 1 n && leb n most) (leb (at + 2 + n) (length bytes)) e);
+    }
 
 pub mark-from : (a : List ℕ) (i : ℕ) → markAt (drop i a) ≡ markFrom a i
 mark-from a i = rw (getD-drop i a 0 0, getD-drop i a 1 0, add-zero)

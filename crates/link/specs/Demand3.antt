@@ -3,10 +3,10 @@
 -- frames that are lists of pieces and for the calls themselves (crate demands).
 use mathlib.Core.Path.{_≡_}
 use mathlib.Core.List.{List, [], _∷_, _++_, map}
-use Prim.Native.Nat.{ℕ, suc, _%_}
+use Prim.Native.Nat.{ℕ}
 use lib.ListN.{length}
-use Rattle.link.specs.Link.{Packet, Piece, Queue, Receiver, Answer, taken, refused, receive}
-use Rattle.link.specs.Ledger.{Line, ledger, unsent, Mark, byMark, came, gaps}
+use Rattle.link.specs.Link.{Packet, Piece, Queue, Answer, taken, refused}
+use Rattle.link.specs.Ledger.{Line, ledger, unsent, Mark, came, gaps}
 
 abbrev pub AllTaken : List Answer → Type 0
 AllTaken [] = Unit {0}
@@ -38,10 +38,3 @@ pub record Demand3 (puts : List Packet) (frames : List (List Piece)) (left : Que
   pub exactly : packetsOf answers ≡ came mark (ledger frames)
   -- the ledger has the packets put, in the order in which they were put, once each and unaltered, up to those not wholly sent
   pub in-order : map packetOf (ledger frames) ++ unsent frames left ≡ puts
-
--- The answers of a receiver to frames that are lists of pieces, the first of them frame i: a lost frame leaves its state as it was.
-abbrev pub deliver : (ℕ → Mark) → ℕ → Receiver → List (List Piece) → List Answer
-deliver mark i receiver [] = []
-deliver mark i receiver (frame ∷ frames) =
-    let received = receive receiver (i % 65536) frame in
-    byMark (mark i) (deliver mark (suc i) receiver frames) (received .answer ∷ deliver mark (suc i) (received .state) frames)

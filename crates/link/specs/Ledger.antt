@@ -1,11 +1,17 @@
 -- What was sent, and what became of it: the ledger is read off the frames sent; a mark for each frame tells whether it was accepted; the two together tell
 -- which packets are to come out, and how many frames were lost between accepted ones.
+--
+-- An example (computed, with more of it, in proofs/Examples.antt): the packets 1 2 3 and 4 5 are put, and three frames sent that take two bytes each.
+-- Frame 0 has 1 2, the first piece of a packet; frame 1 has 3, its last, and 4, the first of the next; frame 2 has 5, the last. The ledger has a line for
+-- 1 2 3, from frame 0 to frame 1, and a line for 4 5, from frame 1 to frame 2. If frame 1 is lost neither comes out, and frame 2 counts one frame missed;
+-- if only frame 2 is lost 1 2 3 comes out.
 use mathlib.Core.Path.{_≡_}
 use mathlib.Core.Bool.{Bool, true, false, _&&_, _||_, cond}
 use mathlib.Core.Option.{Option, none, some}
 use mathlib.Core.List.{List, [], _∷_, _++_}
-use Prim.Native.Nat.{ℕ, zero, suc, _-_, _≤_, _<_}
+use Prim.Native.Nat.{ℕ, zero, suc, _-_, _<_}
 use lib.Dec.{ltb}
+use Rattle.basics.specs.Sizes.{frameNumbers}
 use Rattle.link.specs.Link.{Packet, Piece, Queue}
 
 pub record Line : Type 0 where
@@ -103,4 +109,4 @@ gaps mark i (suc n) = byMark (mark i) (gaps mark (suc i) n) (gap mark i ∷ gaps
 
 -- The limit on lost frames: at most 65,535 between two accepted frames with none accepted between them.
 abbrev pub Limit : (ℕ → Mark) → Type 0
-Limit mark = (a b : ℕ) → a < b → mark a ≡ accepted → mark b ≡ accepted → ((j : ℕ) → a < j → j < b → mark j ≡ lost) → b - a - 1 ≤ 65535
+Limit mark = (a b : ℕ) → a < b → mark a ≡ accepted → mark b ≡ accepted → ((j : ℕ) → a < j → j < b → mark j ≡ lost) → b - a - 1 < frameNumbers

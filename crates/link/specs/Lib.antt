@@ -1,5 +1,5 @@
 pub mod Link
 pub mod Ledger
 pub mod Demand3
-pub mod Packing
 pub mod Store
+pub mod Parsing

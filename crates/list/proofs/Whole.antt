@@ -8,31 +8,19 @@ use Prim.Native.Nat.{ℕ, zero, suc, _+_, _-_, _≤_, _<_}
 use native.Mathlib.Omega.{arith}
 use lib.ListN.{length, take, drop}
 use Rattle.basics.proofs.Tests.{lt-or-ge}
-use Rattle.link.specs.Link.{Packet, ArePackets, Queue}
-use Rattle.link.specs.Store.{layoutPackets, layout, withFront, packetsIn}
-use Rattle.link.proofs.Store.{markFrom, isLengthFrom, packets-at, packets-end}
-use Rattle.link.proofs.RoundTrip.{Parsed, begunFront, plainFront, parsed, parse-back}
-use Rattle.marks.proofs.Walk.{sized}
-use Rattle.list.specs.Reading.{lengthAt, packetAt, packetsFrom, packetsRead}
-use Rattle.list.proofs.Lengths.{no-mark, no-length, is-length}
+use Rattle.link.specs.Link.{Packet, ArePackets}
+use Rattle.link.specs.Store.{layoutPackets}
+use Rattle.link.specs.Parsing.{withFront, packetsIn}
+use Rattle.link.proofs.Store.{markFrom, isLengthFrom, sized, packets-at, packets-end}
+use Rattle.link.proofs.RoundTrip.{packets-back}
+use Rattle.list.specs.Entries.{lengthAt, packetAt, packetsFrom, packetsRead}
+use Rattle.list.proofs.Lengths.{no-length, is-length}
 use Rattle.list.proofs.Calls.{at-end, at-refusal, at-packet}
-
--- what stands in the list that receive wrote
-packets-back : (packets : List Packet) → ArePackets packets → packetsIn (layoutPackets packets) ≡ some packets
-unfolding layout
-packets-back packets h = go (parsed (layout queue) queue (parse-back queue (tt, h)))
-  where
-    queue : Queue
-    queue = record { rest = none; waiting = packets }
-
-    go : Parsed (layout queue) queue → packetsIn (layoutPackets packets) ≡ some packets
-    go (begunFront t s r w) = let z : _≡_ {A = ℕ} 0 1 = cc in absurd (omega arith)
-    go (plainFront r w) = w
 
 module _ (list : List ℕ) where
   -- a mark that is no length, or for which there is no room
   no-entry : (i : ℕ) → isLengthFrom 9000 (markFrom list i) list i ≡ false → 0 ≡ lengthAt list i
-  no-entry i e = ⊎-elim (no-mark list i) (λ room. no-length list i room (markFrom list i) refl false (sym e) refl) (lt-or-ge (length list) (i + 2))
+  no-entry i e = no-length list i (markFrom list i) refl false (sym e) refl
 
   -- an entry that is refused: none is read
   refused-there : (k i : ℕ) → i < length list → 0 ≡ lengthAt list i → packetsFrom (suc k) list i ≡ none
@@ -61,7 +49,7 @@ module _ (list : List ℕ) where
       entry-there false inside e = refused-there k i inside (no-entry i e) ∙ sym (packets-at list i inside ∙ rw e)
       entry-there true inside e =
           let s = sized list i n 9000 e in
-          packet-there k i inside n (is-length list i (omega arith) n refl true (sym e) refl) (s .low)
+          packet-there k i inside n (is-length list i n refl true (sym e) refl) (s .low)
           ∙ ap (withFront (take n (drop (i + 2) list))) (later (i + 2 + n) (s .room) (omega arith))
           ∙ sym (packets-at list i inside ∙ rw e)
 

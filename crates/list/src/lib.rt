@@ -1,8 +1,9 @@
 // Reading the list of packets received: the numbers of an entry, and the packet as the very bytes of the list (01, "Reading the list").
+use basics::sizes;
 ghost use mathlib.Core.Path.{_≡_};
 ghost use Prim.Native.Nat.{_+_, _≤_};
 ghost use lib.ListN.{length};
-ghost use Rattle.list.specs.Reading.{lengthAt, entryAnswer, PacketOutcome};
+ghost use Rattle.list.specs.Entries.{lengthAt, EntryOutcome, PacketOutcome};
 
 // The place and the length of the packet, and the position after it.
 pub enum EntryAnswer {
@@ -27,7 +28,7 @@ fn length_at(list: &[u8], position: usize) -> usize
         return 0;
     }
     let length = marks::mark_at(list, position);
-    if !marks::is_length(list.len(), position, length, 9000) {
+    if !marks::is_length(list.len(), position, length, sizes::MOST_PACKET) {
         return 0;
     }
     length
@@ -35,7 +36,7 @@ fn length_at(list: &[u8], position: usize) -> usize
 
 // What stands at a position, as numbers. Refusal: 16.
 pub fn entry(list: &[u8], position: usize) -> EntryAnswer
-    ensures { λ r. ⌜ r ≡ entryAnswer (now (list .entry)) position ⌝ }
+    ensures { λ r. ⌜ EntryOutcome (now (list .entry)) position r ⌝ }
 {
     if position == list.len() {
         return EntryAnswer::End;
@@ -58,7 +59,7 @@ pub fn packet(list: &[u8], position: usize) -> &[u8]
 {
     let length = length_at(list, position);
     if length == 0 {
-        return &list[..0];
+        return &list[0..0];
     }
     let start = position + 2;
     &list[start..start + length]

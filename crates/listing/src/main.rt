@@ -1,5 +1,6 @@
 // The listing program: reads frames from standard input through one receiver, fresh at the start, and prints a line for each (01, end of "Numbers to try").
 // What a line says, and what a receiver does, is library code with contracts; here is only reading and printing.
+use basics::sizes;
 use libc::STDIN_FILENO;
 use libc::STDOUT_FILENO;
 use receiver::Receiver;
@@ -68,8 +69,8 @@ fn main() {
     let mut head = [0u8; 96];
     let end = listing_lines::write_head(&mut head);
     io::write_all(STDOUT_FILENO, &head[..end]);
-    let mut frame = [0u8; 2081];
-    let mut hold = [0u8; 9000];
-    let mut list = [0u8; 10907];
+    let mut frame = [0u8; sizes::FRAME_SIZE];
+    let mut hold = [0u8; sizes::HOLD_SIZE];
+    let mut list = [0u8; sizes::LIST_SIZE];
     list_all(&mut frame, &mut hold, &mut list);
 }

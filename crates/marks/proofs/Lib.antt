@@ -2,3 +2,4 @@ pub mod Walk
 pub mod Parsed
 pub mod Used
 pub mod Round
+pub mod Exactly

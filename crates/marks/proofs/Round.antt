@@ -10,8 +10,8 @@ use lib.ListN.{length, take, drop, length-drop}
 use lib.Seq.{length-take-le}
 use borrow.Author.Tests.{lt-ltb, le-ltb}
 use Rattle.basics.proofs.Tests.{lt-or-ge}
-use Rattle.link.specs.Store.{markAt, isWhole}
-use Rattle.link.proofs.Store.{markFrom, isLengthFrom, wholeFrom}
+use Rattle.link.specs.Parsing.{markAt, isWhole}
+use Rattle.link.proofs.Store.{markFrom, isLengthFrom, wholeFrom, sized}
 use Rattle.ring.specs.Ring.{roundFrom}
 use Rattle.marks.specs.Queue.{usedIn}
 use Rattle.marks.specs.Walk.{overEnd, leadsToEnd, LeadsOn}
@@ -49,7 +49,7 @@ module _ (queue : List ℕ) (start used : ℕ) (u : used ≤ length queue) where
       begun-bad f = sym (walk.begun-bad bytes mark is-mark g (tested 0 (mark - 32768) 8999 t f))
 
       pub begun-fits : test ≡ true → 2 + (mark - 32768) ≤ used
-      begun-fits f = omega (arith, long, walk.sized bytes 0 (mark - 32768) 8999 (tested 0 (mark - 32768) 8999 t f) .room)
+      begun-fits f = omega (arith, long, sized bytes 0 (mark - 32768) 8999 (tested 0 (mark - 32768) 8999 t f) .room)
 
       pub begun-good : test ≡ true → wholeFrom bytes (2 + (mark - 32768)) ≡ isWhole bytes
       begun-good f = sym (walk.begun-good bytes mark is-mark g (tested 0 (mark - 32768) 8999 t f))

@@ -9,7 +9,7 @@ use lib.ListN.{length, getD, take, drop}
 use lib.Seq.{length-take-le, getD-take}
 use borrow.Author.Tests.{ltb-true, leb-true}
 use Rattle.basics.proofs.Tests.{left-true, right-true}
-use Rattle.link.specs.Store.{markAt, isWhole}
+use Rattle.link.specs.Parsing.{markAt, isWhole}
 use Rattle.link.proofs.Store.{markFrom, mark-from}
 use Rattle.ring.specs.Ring.{roundFrom}
 use Rattle.ring.proofs.Laws.{round-length, byte-near, byte-far, part-near, part-over}

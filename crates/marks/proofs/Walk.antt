@@ -1,6 +1,6 @@
 -- The walk of the marks: what a mark at a position says of the bytes from there on, in the tests of the code.
 use mathlib.Core.Path.{_≡_, refl, sym, subst, ap, ap₂, _∙_}
-use mathlib.Core.Bool.{Bool, true, false, cond, _&&_}
+use mathlib.Core.Bool.{Bool, true, false, cond, _&&_, and-false}
 use mathlib.Core.Logic.{_⊎_, inl, inr, ⊎-elim}
 use mathlib.Core.List.{List, [], _∷_, _++_, append-nil}
 use Prim.Native.Nat.{ℕ, _+_, _-_, _*_, _≤_, _<_}
@@ -9,15 +9,12 @@ use native.Mathlib.Decide.{decLe}
 use lib.Dec.{leb, eqb}
 use lib.ListN.{length, length-append, List·getD-append}
 use lib.Seq.{drop-append-add}
-use borrow.Author.Tests.{eq-eqb, ne-eqb, leb-true, lt-leb, le-leb}
-use Rattle.basics.proofs.Tests.{lt-or-ge, left-true, right-true}
+use borrow.Author.Tests.{eq-eqb, ne-eqb, lt-leb, le-leb}
+use Rattle.basics.proofs.Tests.{lt-or-ge}
 use Rattle.link.proofs.Store.{markFrom, isLengthFrom, wholeFrom, whole-step, whole-front, whole-begun, whole-end}
-use Rattle.link.specs.Store.{packetsIn, isSome, isWhole}
+use Rattle.basics.specs.Lists.{isSome}
+use Rattle.link.specs.Parsing.{packetsIn, isWhole}
 use Rattle.marks.specs.Walk.{behindPacket, leadsToEnd, LeadsOn}
-
-and-false : (a : Bool) → (a && false) ≡ false
-and-false true = refl
-and-false false = refl
 
 -- room behind a mark, as the code and as the definition counts it
 pub within : (at n long : ℕ) → at + 2 ≤ long → leb n (long - at - 2) ≡ leb (at + 2 + n) long
@@ -26,21 +23,6 @@ within at n long h = go (decLe (at + 2 + n) long)
     go : Dec (at + 2 + n ≤ long) → leb n (long - at - 2) ≡ leb (at + 2 + n) long
     go (yes y) = rw (le-leb (at + 2 + n) long y) (le-leb n (long - at - 2) (omega arith))
     go (no y) = rw (lt-leb (at + 2 + n) long (omega arith)) (lt-leb n (long - at - 2) (omega arith))
-
--- what a length that was judged says
-pub record Sized (most n at long : ℕ) : Type 0 where
-  pub low : 1 ≤ n
-  pub high : n ≤ most
-  pub room : at + 2 + n ≤ long
-
-pub sized : (bytes : List ℕ) (at n most : ℕ) → isLengthFrom most n bytes at ≡ true → Sized most n at (length bytes)
-sized bytes at n most e =
-    let front = left-true (leb 1 n && leb n most) (leb (at + 2 + n) (length bytes)) e in
-    record {
-      low = leb-true 1 n (left-true (leb 1 n) (leb n most) front);
-      high = leb-true n most (right-true (leb 1 n) (leb n most) front);
-      room = leb-true (at + 2 + n) (length bytes) (right-true (leb 1 n && leb n most) (leb (at + 2 + n) (length bytes)) e);
-    }
 
 -- ---- from a place on
 

@@ -1,30 +1,28 @@
 -- The queue in its ring (01, "Queue"; 02, M-105): where its used bytes stand, whether they stand for waiting packets and for which, and where they begin once
 -- some are freed.
 use mathlib.Core.Bool.{Bool, _&&_}
-use mathlib.Core.Option.{Option, none, some}
+use mathlib.Core.Option.{Option·getD}
 use mathlib.Core.List.{List}
 use Prim.Native.Nat.{ℕ, _+_, _-_, _%_}
 use lib.Dec.{ltb, leb}
 use lib.ListN.{take}
+use Rattle.basics.specs.Sizes.{queueSize}
 use Rattle.link.specs.Link.{Queue, empty}
-use Rattle.link.specs.Store.{parse, isWhole}
+use Rattle.link.specs.Parsing.{parse, isWhole}
 use Rattle.ring.specs.Ring.{roundFrom}
 
 -- the used bytes, in order: byte i of them stands at (start + i) modulo 32,768 (`waiting-byte` in proofs/Used.antt)
 abbrev pub usedIn : List ℕ → ℕ → ℕ → List ℕ
 usedIn queue start used = take used (roundFrom start queue)
 
--- start and count are those of a ring of 32,768, and its used bytes stand for waiting packets (otherwise refusal 3); the others are not looked at
+-- start and count are those of a ring of 32,768, and its used bytes stand for waiting packets (otherwise refusal 3); the others are not looked at. In plain
+-- words, with `layout` alone: `queue-exactly` of demand 2.
 unfoldable pub isRingWhole : List ℕ → ℕ → ℕ → Bool
-isRingWhole queue start used = ltb start 32768 && leb used 32768 && isWhole (usedIn queue start used)
+isRingWhole queue start used = ltb start queueSize && leb used queueSize && isWhole (usedIn queue start used)
 
--- the queue that bytes stand for; where they stand for none a call is refused, and the empty one is not used
-abbrev pub orEmpty : Option Queue → Queue
-orEmpty none = empty
-orEmpty (some queue) = queue
-
+-- the queue that bytes stand for, the one whose layout they are; where they stand for none a call is refused, and the empty one is not used
 unfoldable pub queueIn : List ℕ → Queue
-queueIn bytes = orEmpty (parse bytes)
+queueIn bytes = Option·getD (parse bytes) empty
 
 -- the packets that wait in the ring, in order
 abbrev pub waitingIn : List ℕ → ℕ → ℕ → Queue
@@ -32,4 +30,4 @@ waitingIn queue start used = queueIn (usedIn queue start used)
 
 -- the start once `left` of the used bytes still wait: it moves on by what was freed, round, and is never put back
 abbrev pub startAfter : ℕ → ℕ → ℕ → ℕ
-startAfter start used left = (start + (used - left)) % 32768
+startAfter start used left = (start + (used - left)) % queueSize

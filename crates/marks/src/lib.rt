@@ -1,12 +1,16 @@
 // Marks: the two bytes, high byte first, before a packet in the queue and in the list and before a record in an area. And whether the queue's ring is whole,
 // judged mark by mark.
+use basics::sizes;
 ghost use mathlib.Core.Path.{_≡_};
 ghost use mathlib.Core.Bool.{_&&_};
 ghost use mathlib.Core.List.{[]};
 ghost use Prim.Native.Nat.{_+_, _*_, _≤_, _<_};
 ghost use lib.Dec.{leb};
 ghost use lib.ListN.{length, getD, drop};
-ghost use Rattle.link.specs.Store.{marked, markAt, packetsIn, isSome, isWhole};
+ghost use Rattle.basics.specs.Sizes.{queueSize};
+ghost use Rattle.link.specs.Store.{marked};
+ghost use Rattle.basics.specs.Lists.{isSome};
+ghost use Rattle.link.specs.Parsing.{markAt, packetsIn, isWhole};
 ghost use Rattle.ring.specs.Ring.{roundFrom};
 ghost use Rattle.marks.specs.Queue.{usedIn, isRingWhole};
 ghost use Rattle.marks.specs.Walk.{behindPacket, overEnd, LeadsOn};
@@ -66,11 +70,11 @@ pub fn is_length(total: usize, at: usize, n: usize, most: usize) -> bool
 // Where the walk goes on from a mark that says n: behind its packet, or nowhere, which is behind every ring, where n is no length. One test judges 1 to 9,000,
 // for 0 wraps to the greatest number.
 fn behind_packet(at: usize, n: usize, nowhere: usize) -> usize
-    requires { ⌜ at < 32768 ⌝ }
+    requires { ⌜ at < queueSize ⌝ }
     ensures { λ r. ⌜ r ≡ behindPacket at n nowhere ⌝ }
 {
     let less = std::num::wrapping_sub_usize(n, 1);
-    if 8999 < less {
+    if sizes::MOST_PACKET <= less {
         return nowhere;
     }
     at + 3 + less
@@ -79,11 +83,11 @@ fn behind_packet(at: usize, n: usize, nowhere: usize) -> usize
 // Goes from mark to mark of a stretch while both bytes of one stand in it, and gives the place reached. Whether that is the end of what waits is asked once,
 // there, and not for each packet. (With a constant for nowhere the compiler's loop is longer by an instruction.)
 fn walk_stretch(stretch: &[u8], from: usize) -> usize
-    requires { ⌜ (1 ≤ length (now stretch)) × (length (now stretch) ≤ 32768) ⌝ }
+    requires { ⌜ (1 ≤ length (now stretch)) × (length (now stretch) ≤ queueSize) ⌝ }
     ensures { λ r. ⌜ LeadsOn (now (stretch .entry)) from r × (length (now (stretch .entry)) ≤ r + 1) ⌝ }
 {
     let last = stretch.len() - 1;
-    let nowhere = stretch.len() + 32768;
+    let nowhere = stretch.len() + sizes::QUEUE_SIZE;
     let mut at = from;
     while at < last {
         at = behind_packet(at, mark_at(stretch, at), nowhere);
@@ -91,23 +95,26 @@ fn walk_stretch(stretch: &[u8], from: usize) -> usize
     at
 }
 
-// Goes on over a mark that the buffer's end parts, where the walk up to it stopped before one; 65,536 is nowhere, behind every ring.
+// A place behind every ring.
+const NOWHERE: usize = 2 * sizes::QUEUE_SIZE;
+
+// Goes on over a mark that the buffer's end parts, where the walk up to it stopped before one.
 fn over_end(queue: &[u8], start: usize, at: usize) -> usize
-    requires { ⌜ (length (now queue) ≡ 32768) × (1 ≤ start) × (start < 32768) ⌝ }
+    requires { ⌜ (length (now queue) ≡ queueSize) × (1 ≤ start) × (start < queueSize) ⌝ }
     ensures { λ r. ⌜ r ≡ overEnd (now (queue .entry)) start at ⌝ }
 {
-    if at < 32768 - start {
-        return behind_packet(at, mark_round(queue, start, at), 65536);
+    if at < sizes::QUEUE_SIZE - start {
+        return behind_packet(at, mark_round(queue, start, at), NOWHERE);
     }
     at
 }
 
 // Whether there are packets from an index to the end of the used bytes, none of them begun: up to the buffer's end, over it, and behind it.
 fn are_packets(queue: &[u8], start: usize, used: usize, behind: usize) -> bool
-    requires { ⌜ (length (now queue) ≡ 32768) × (start < 32768) × (1 ≤ used) × (used ≤ 32768) × (behind ≤ used) ⌝ }
+    requires { ⌜ (length (now queue) ≡ queueSize) × (start < queueSize) × (1 ≤ used) × (used ≤ queueSize) × (behind ≤ used) ⌝ }
     ensures { λ r. ⌜ r ≡ isSome (packetsIn (drop behind (usedIn (now (queue .entry)) start used))) ⌝ }
 {
-    let near = 32768 - start; // from the start to the buffer's end
+    let near = sizes::QUEUE_SIZE - start; // from the start to the buffer's end
     if used <= near {
         let end = start + used;
         return walk_stretch(&queue[start..end], behind) == used;
@@ -119,18 +126,18 @@ fn are_packets(queue: &[u8], start: usize, used: usize, behind: usize) -> bool
 
 // Whether the used bytes stand for waiting packets; only the front one may be begun.
 fn is_whole(queue: &[u8], start: usize, used: usize) -> bool
-    requires { ⌜ (length (now queue) ≡ 32768) × (start < 32768) × (used ≤ 32768) ⌝ }
+    requires { ⌜ (length (now queue) ≡ queueSize) × (start < queueSize) × (used ≤ queueSize) ⌝ }
     ensures { λ r. ⌜ r ≡ isWhole (usedIn (now (queue .entry)) start used) ⌝ }
 {
     if used < 2 {
         return used == 0;
     }
     let mark = mark_round(queue, start, 0);
-    if mark < 32768 {
+    if mark < sizes::BEGUN_BIT {
         return are_packets(queue, start, used, 0);
     }
-    let n = mark - 32768;
-    if !is_length(used, 0, n, 8999) {
+    let n = mark - sizes::BEGUN_BIT;
+    if !is_length(used, 0, n, sizes::MOST_HELD) {
         return false;
     }
     are_packets(queue, start, used, 2 + n)
@@ -138,13 +145,13 @@ fn is_whole(queue: &[u8], start: usize, used: usize) -> bool
 
 // Whether a start and a count are those of a ring, judged before any sum is made of them, and its used bytes stand for waiting packets (otherwise refusal 3).
 pub fn is_ring_whole(queue: &[u8], start: usize, used: usize) -> bool
-    requires { ⌜ length (now queue) ≡ 32768 ⌝ }
+    requires { ⌜ length (now queue) ≡ queueSize ⌝ }
     ensures { λ r. ⌜ r ≡ isRingWhole (now (queue .entry)) start used ⌝ }
 {
-    if 32768 <= start {
+    if sizes::QUEUE_SIZE <= start {
         return false;
     }
-    if 32768 < used {
+    if sizes::QUEUE_SIZE < used {
         return false;
     }
     is_whole(queue, start, used)

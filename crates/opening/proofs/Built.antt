@@ -9,7 +9,7 @@ use lib.ListN.{length, take, drop, length-append}
 use lib.Seq.{take-at, drop-at, drop-drop, take-take, take-add, length-take-le}
 use Rattle.basics.specs.Lists.{zeros, same}
 use Rattle.basics.proofs.Tests.{same-self}
-use Rattle.lent.proofs.Outcome.{accepted}
+use Rattle.lent.specs.Refusals.{firstOf}
 use Rattle.reed_solomon.specs.Code.{parity, isCodeword, lengthened}
 use Rattle.interleaving.specs.Payload.{areCodewords}
 use Rattle.reed_solomon.proofs.Laws.{parity-zeros, codeword-true, coded}
@@ -17,14 +17,14 @@ use Rattle.interleaving.proofs.Interleaved.{codewords-true, coded-codewords, co
 use Rattle.scrambler.specs.Scrambler.{tapsAllowed, scrambled}
 use Rattle.scrambler.proofs.Laws.{scrambled-twice}
 use Rattle.header.specs.Header.{headerBytes, headerFits}
-use Rattle.reading.specs.Reading.{headerOf, headerRefusal}
+use Rattle.reading.specs.Reading.{headerOf, headerTable}
 use Rattle.header.specs.declared.Header.{Header}
 use Rattle.header.proofs.Bytes.{header-length}
 use Rattle.reading.proofs.Sent.{sendable, header-back, none-refused}
 use Rattle.frame.specs.Frame.{preamble, codedHeader, areaCheck, areaPayload, frameBytes}
 use Rattle.frame.proofs.Laws.{payload-length, data-length, coded-header-length, body-length}
-use Rattle.opening.specs.Opening.{unscrambled, headerPart, areaPart, areaChecked, payloadRefusal, innerRefusal, openRefusal, openedHeader, openedArea}
-use Rattle.opening.proofs.Laws.{inner-then, outer-zero}
+use Rattle.opening.specs.Opening.{unscrambled, headerPart, areaPart, areaChecked, frameTable, openRefusal, openedHeader, openedArea}
+use Rattle.opening.proofs.Laws.{frame-passes, open-by-frame}
 
 module _ (taps : ℕ) (header : Header) (area : List ℕ) (long : length area ≡ 1908) where
   abbrev body : List ℕ
@@ -37,7 +37,7 @@ module _ (taps : ℕ) (header : Header) (area : List ℕ) (long : length area �
   unfolding frameBytes
   frame-front = take-at preamble (scrambled taps body) 9 refl
 
-  frame-length : length frame ≡ 2081
+  pub frame-length : length frame ≡ 2081
   unfolding frameBytes
   frame-length = length-append preamble (scrambled taps body) ∙ ap (λ (n : ℕ). 9 + n) (body-length taps header area long)
 
@@ -90,21 +90,23 @@ module _ (taps : ℕ) (header : Header) (area : List ℕ) (long : length area �
   unfolding areaPayload
   payload-codewords = ap areCodewords body-payload ∙ codewords-true _ (coded-codewords (area ++ areaCheck area) (data-length area long))
 
-  payload-passes : payloadRefusal body ≡ 0
-  unfolding payloadRefusal areaChecked
-  payload-passes =
-      simp (payload-codewords, ap₂ same body-check (ap areaCheck body-area) ∙ same-self (areaCheck area))
+  area-checked : areaChecked body ≡ true
+  unfolding areaChecked
+  area-checked = ap₂ same body-check (ap areaCheck body-area) ∙ same-self (areaCheck area)
 
-  inner-passes : headerFits header ≡ true → innerRefusal body ≡ 0
-  unfolding innerRefusal
-  inner-passes h =
-      let none = ap headerRefusal body-fields ∙ none-refused header (sendable header h) in
-      simp header-codeword (sym (accepted (headerRefusal (headerPart body)) _ _ _ _ refl none (sym payload-passes)))
+  -- no row from 7 on refuses it
+  pub built-passes : headerFits header ≡ true → firstOf (frameTable taps frame) ≡ 0
+  built-passes h =
+      frame-passes taps frame record {
+        begins = frame-front;
+        header-word = ap (λ (l : List ℕ). isCodeword (lengthened (take 32 l))) frame-body ∙ header-codeword;
+        header-read = ap (λ (l : List ℕ). firstOf (headerTable (headerPart l))) frame-body ∙ ap (λ (l : List ℕ). firstOf (headerTable l)) body-fields ∙ none-refused header (sendable header h);
+        payload-words = ap (λ (l : List ℕ). areCodewords (drop 32 l)) frame-body ∙ payload-codewords;
+        checked = ap areaChecked frame-body ∙ area-checked;
+      }
 
   pub built-accepted : (buffer : List ℕ) → tapsAllowed taps ≡ true → headerFits header ≡ true → 1908 ≤ length buffer → openRefusal taps frame buffer ≡ 0
-  built-accepted buffer t h room =
-      let none = outer-zero taps frame buffer (record { allowed = t; long = frame-length; room = room; begins = frame-front }) in
-      sym (inner-then taps frame buffer 0 0 (sym none) refl (sym (ap innerRefusal frame-body ∙ inner-passes h)))
+  built-accepted buffer t h room = open-by-frame taps frame buffer (record { allowed = t; long = frame-length; room = room }) ∙ built-passes h
 
   pub built-header : headerFits header ≡ true → openedHeader taps frame ≡ header
   unfolding openedHeader

@@ -7,20 +7,22 @@ use Prim.Native.Nat.{ℕ, _≤_}
 use lib.ListN.{length}
 use Rattle.basics.specs.Lists.{Bytes}
 use Rattle.lent.specs.Written.{written}
-use Rattle.lent.proofs.Outcome.{accepted, numbered}
+use Rattle.lent.proofs.Refusals.{accepted, numbered}
 use Rattle.scrambler.specs.Scrambler.{tapsAllowed}
 use Rattle.header.specs.Header.{headerFits}
 use Rattle.header.specs.declared.Header.{Header}
 use Rattle.frame.specs.Frame.{frameBytes}
-use Rattle.opening.specs.Opening.{openRefusal, openedHeader, openedArea, openNumber, openAnswer, OpenOutcome}
+use Rattle.opening.specs.Opening.{openRefusal, openedHeader, openedArea, openNumber, OpenOutcome}
 use Rattle.opening.specs.declared.OpenAnswer.{OpenAnswer}
 use Rattle.opening.specs.declared.OpenAnswer.the-variants.{Opened, Refused}
+use Rattle.opening.proofs.Laws.{open-passed}
 use Rattle.opening.proofs.Built.{built-accepted, built-header, built-area}
-use Rattle.opening.proofs.Accepted.{accepted-frame, accepted-fits, accepted-taps, accepted-area}
+use Rattle.opening.proofs.Accepted.{accepted-frame, accepted-fits, accepted-area}
 
--- the answer's number is the one that it was made for
-pub open-numbers : (number : ℕ) (header : Header) → openNumber (openAnswer number header) ≡ number
-open-numbers number header = numbered openNumber (Opened header) (λ n. Refused n) refl (λ n. refl) number
+-- the answer's number is the refusal's
+pub open-numbers : {taps : ℕ} {frame before : List ℕ} {r : OpenAnswer} {after : List ℕ} → OpenOutcome taps frame before r after
+    → openNumber r ≡ openRefusal taps frame before
+open-numbers x = ap openNumber (x .answer) ∙ numbered openNumber _ Refused refl (λ n. refl) _
 
 -- the header in an answer, or another where there is none
 abbrev headerIn : Header → OpenAnswer → Header
@@ -49,19 +51,16 @@ pub built-of-open : (taps : ℕ) (frame before : List ℕ) (header : Header) (af
     → OpenOutcome taps frame before (Opened header) after
     → AcceptedAs taps frame header (openedArea taps frame) × (after ≡ written before 0 (openedArea taps frame))
 built-of-open taps frame before header after bytes outcome =
-    let none : openRefusal taps frame before ≡ 0 = sym (ap openNumber (outcome .answer) ∙ open-numbers (openRefusal taps frame before) (openedHeader taps frame)) in
+    let none : openRefusal taps frame before ≡ 0 = sym (open-numbers outcome) in
+    let passed = open-passed taps frame before none in
+    let whole = passed .0 .long in
     let header-is : header ≡ openedHeader taps frame =
     ap (headerIn header) (outcome .answer ∙ sym (accepted 0 _ _ _ _ (sym none) refl refl)) in (
       record {
-        allowed = accepted-taps taps frame before bytes none;
-        may-be-sent = ap headerFits header-is ∙ accepted-fits taps frame before bytes none;
-        long = accepted-area taps frame before bytes none;
-        frame-is = accepted-frame taps frame before bytes none ∙ ap (λ (x : Header). frameBytes taps x (openedArea taps frame)) (sym header-is);
+        allowed = passed .0 .allowed;
+        may-be-sent = ap headerFits header-is ∙ accepted-fits taps frame bytes whole (passed .1);
+        long = accepted-area taps frame bytes whole (passed .1);
+        frame-is = accepted-frame taps frame bytes whole (passed .1) ∙ ap (λ (x : Header). frameBytes taps x (openedArea taps frame)) (sym header-is);
       },
       outcome .bytes ∙ sym (accepted 0 _ _ _ _ (sym none) refl refl),
     )
-
--- Any two outcomes that the contract of `open` admits are equal.
-pub open-one : (taps : ℕ) (frame before : List ℕ) (r₁ r₂ : OpenAnswer) (after₁ after₂ : List ℕ)
-    → OpenOutcome taps frame before r₁ after₁ → OpenOutcome taps frame before r₂ after₂ → (r₁ ≡ r₂) × (after₁ ≡ after₂)
-open-one taps frame before r₁ r₂ after₁ after₂ x y = (x .answer ∙ sym (y .answer), x .bytes ∙ sym (y .bytes))

@@ -1,17 +1,18 @@
 -- What opening a frame does: the refusals 1, 2 and 7 to 13, and the header and the area of a frame that is accepted (01, "Refusal numbers").
 use mathlib.Core.Path.{_≡_}
-use mathlib.Core.Bool.{Bool, cond, _&&_}
-use mathlib.Core.List.{List}
-use Prim.Native.Nat.{ℕ}
+use mathlib.Core.Bool.{Bool, _&&_}
+use mathlib.Core.List.{List, [], _∷_, _++_}
+use Prim.Native.Nat.{ℕ, _+_}
 use lib.Dec.{eqb, leb}
 use lib.ListN.{length, take, drop}
 use Rattle.basics.specs.Lists.{same}
-use Rattle.lent.specs.Outcome.{by}
+use Rattle.basics.specs.Sizes.{areaSize, frameSize}
+use Rattle.lent.specs.Refusals.{Row, _unless_, firstOf, by, answerBy}
 use Rattle.lent.specs.Written.{written}
 use Rattle.reed_solomon.specs.Code.{isCodeword, lengthened}
 use Rattle.interleaving.specs.Payload.{areCodewords}
 use Rattle.scrambler.specs.Scrambler.{tapsAllowed, scrambled}
-use Rattle.reading.specs.Reading.{headerOf, headerRefusal}
+use Rattle.reading.specs.Reading.{headerOf, headerTable}
 use Rattle.header.specs.declared.Header.{Header}
 use Rattle.frame.specs.Frame.{preamble, areaCheck}
 use Rattle.opening.specs.declared.OpenAnswer.{OpenAnswer}
@@ -26,30 +27,35 @@ abbrev pub headerPart : List ℕ → List ℕ
 headerPart body = take 16 body
 
 abbrev pub areaPart : List ℕ → List ℕ
-areaPart body = take 1908 (drop 32 body)
+areaPart body = take areaSize (drop 32 body)
 
 -- the CRC-32 is the one that follows the area
 unfoldable pub areaChecked : List ℕ → Bool
-areaChecked body = same (take 4 (drop 1940 body)) (areaCheck (areaPart body))
+areaChecked body = same (take 4 (drop (32 + areaSize) body)) (areaCheck (areaPart body))
 
--- the lowest number that applies before the frame is unscrambled, 0 for none
-unfoldable pub outerRefusal : ℕ → List ℕ → List ℕ → ℕ
-outerRefusal taps frame area =
-    cond (tapsAllowed taps) (cond (eqb (length frame) 2081 && leb 1908 (length area)) (cond (same (take 9 frame) preamble) 0 7) 2) 1
+-- what is asked of those bytes. 8: the coded header, with the zeros that are not sent, is no codeword. 9 to 11: of the header's 16 bytes.
+-- 12: one of the eight payload words is no codeword. 13: the CRC-32 differs.
+abbrev pub bodyTable : List ℕ → List Row
+bodyTable body =
+    8 unless isCodeword (lengthened (take 32 body))
+    ∷ headerTable (headerPart body)
+    ++ 12 unless areCodewords (drop 32 body)
+    ∷ 13 unless areaChecked body
+    ∷ []
 
--- 12 and 13
-unfoldable pub payloadRefusal : List ℕ → ℕ
-payloadRefusal body = cond (areCodewords (drop 32 body)) (cond (areaChecked body) 0 13) 12
+-- what is asked of a frame of 2,081 bytes. 7: the preamble differs. 8 to 13: of the bytes after it.
+abbrev pub frameTable : ℕ → List ℕ → List Row
+frameTable taps frame = 7 unless same (take 9 frame) preamble ∷ bodyTable (unscrambled taps frame)
 
--- and in what was unscrambled: 8, then 9 to 11 of the header, then 12 and 13
-unfoldable pub innerRefusal : List ℕ → ℕ
-innerRefusal body =
-    cond (isCodeword (lengthened (take 32 body))) (by (headerRefusal (headerPart body)) (payloadRefusal body) (headerRefusal (headerPart body))) 8
+-- 1: taps at or above 2^25, or tap 0 clear. 2: the frame is not 2,081 long, or fewer than 1,908 bytes are lent for the area. 7 to 13: of the frame.
+abbrev pub openTable : ℕ → List ℕ → List ℕ → List Row
+openTable taps frame area =
+    1 unless tapsAllowed taps
+    ∷ 2 unless (eqb (length frame) frameSize && leb areaSize (length area))
+    ∷ frameTable taps frame
 
--- the number of a frame's refusal, 0 for none
 unfoldable pub openRefusal : ℕ → List ℕ → List ℕ → ℕ
-openRefusal taps frame area =
-    by (outerRefusal taps frame area) (innerRefusal (unscrambled taps frame)) (outerRefusal taps frame area)
+openRefusal taps frame area = firstOf (openTable taps frame area)
 
 -- the header and the area of a frame
 unfoldable pub openedHeader : ℕ → List ℕ → Header
@@ -58,15 +64,12 @@ openedHeader taps frame = headerOf (headerPart (unscrambled taps frame))
 unfoldable pub openedArea : ℕ → List ℕ → List ℕ
 openedArea taps frame = areaPart (unscrambled taps frame)
 
--- The paper's number and values for each case of the answer, and the case for a number: `open-numbers` in proofs/Theorems.antt ties the two.
+-- the paper's number for each case of the answer (01, last section)
 abbrev pub openNumber : OpenAnswer → ℕ
 openNumber (Opened header) = 0
 openNumber (Refused number) = number
 
-abbrev pub openAnswer : ℕ → Header → OpenAnswer
-openAnswer number header = by number (Opened header) (Refused number)
-
 -- the answer of `open`, and the area's buffer after it: a refusal leaves the buffer as it was
 pub record OpenOutcome (taps : ℕ) (frame before : List ℕ) (r : OpenAnswer) (after : List ℕ) : Type 0 where
-  pub answer : r ≡ openAnswer (openRefusal taps frame before) (openedHeader taps frame)
+  pub answer : r ≡ answerBy (openRefusal taps frame before) (Opened (openedHeader taps frame)) Refused
   pub bytes : after ≡ by (openRefusal taps frame before) (written before 0 (openedArea taps frame)) before

@@ -1,19 +1,28 @@
 // What is asked of a frame that arrived, in the order of the refusals' numbers.
+use basics::sizes;
 ghost use mathlib.Core.Path.{_≡_};
-ghost use lib.ListN.{length};
-ghost use Rattle.opening.specs.Opening.{unscrambled, outerRefusal, innerRefusal, payloadRefusal, areaChecked};
+ghost use lib.ListN.{length, take};
+ghost use Rattle.basics.specs.Sizes.{frameSize};
+ghost use Rattle.lent.specs.Refusals.{firstOf};
+ghost use Rattle.opening.specs.Opening.{unscrambled, bodyTable, openTable, areaChecked};
 
-// 1, 2 and 7, before the frame is unscrambled.
+// Where the area ends in what follows the preamble: the 32 bytes of coded header stand before it.
+pub const AREA_END: usize = 32 + sizes::AREA_SIZE;
+
+// Where its CRC-32 ends.
+const CHECK_END: usize = AREA_END + 4;
+
+// The table's first three rows, 1, 2 and 7, before the frame is unscrambled.
 pub fn outer_refusal(taps: u32, frame: &[u8], area: &[u8]) -> u8
-    ensures { λ r. ⌜ r ≡ outerRefusal taps (now (frame .entry)) (now (area .entry)) ⌝ }
+    ensures { λ r. ⌜ r ≡ firstOf (take 3 (openTable taps (now (frame .entry)) (now (area .entry)))) ⌝ }
 {
     if !scrambler::are_taps(taps) {
         return 1;
     }
-    if frame.len() != 2081 {
+    if frame.len() != sizes::FRAME_SIZE {
         return 2;
     }
-    if area.len() < 1908 {
+    if area.len() < sizes::AREA_SIZE {
         return 2;
     }
     let preamble = frame::preamble();
@@ -26,7 +35,7 @@ pub fn outer_refusal(taps: u32, frame: &[u8], area: &[u8]) -> u8
 
 // The 2,072 bytes after the preamble, with the scrambler's bits taken off.
 pub fn unscrambled(taps: u32, frame: &[u8]) -> [u8; 2072]
-    requires { ⌜ length (now frame) ≡ 2081 ⌝ }
+    requires { ⌜ length (now frame) ≡ frameSize ⌝ }
     ensures { λ r. ⌜ r ≡ unscrambled taps (now (frame .entry)) ⌝ }
 {
     let mut body = [0u8; 2072];
@@ -38,7 +47,7 @@ pub fn unscrambled(taps: u32, frame: &[u8]) -> [u8; 2072]
 // 8 to 13.
 pub fn inner_refusal(body: &[u8]) -> u8
     requires { ⌜ length (now body) ≡ 2072 ⌝ }
-    ensures { λ r. ⌜ r ≡ innerRefusal (now (body .entry)) ⌝ }
+    ensures { λ r. ⌜ r ≡ firstOf (bodyTable (now (body .entry))) ⌝ }
 {
     if !reed_solomon::is_codeword(&body[..32]) {
         return 8;
@@ -47,14 +56,6 @@ pub fn inner_refusal(body: &[u8]) -> u8
     if number != 0 {
         return number;
     }
-    payload_refusal(body)
-}
-
-// 12 and 13.
-fn payload_refusal(body: &[u8]) -> u8
-    requires { ⌜ length (now body) ≡ 2072 ⌝ }
-    ensures { λ r. ⌜ r ≡ payloadRefusal (now (body .entry)) ⌝ }
-{
     if !interleaving::are_codewords(&body[32..]) {
         return 12;
     }
@@ -65,6 +66,6 @@ fn is_area_checked(body: &[u8]) -> bool
     requires { ⌜ length (now body) ≡ 2072 ⌝ }
     ensures { λ r. ⌜ r ≡ areaChecked (now (body .entry)) ⌝ }
 {
-    let check = frame::area_check(&body[32..1940]);
-    lent::are_same(&body[1940..1944], &check)
+    let check = frame::area_check(&body[32..AREA_END]);
+    lent::are_same(&body[AREA_END..CHECK_END], &check)
 }

@@ -2,7 +2,13 @@
 mod judging;
 
 use header::Header;
-ghost use Rattle.opening.specs.Opening.{OpenOutcome};
+ghost use mathlib.Core.Path.{_≡_};
+ghost use Prim.Native.Nat.{_≤_};
+ghost use lib.ListN.{length};
+ghost use Rattle.basics.specs.Sizes.{areaSize};
+ghost use Rattle.lent.specs.Refusals.{by};
+ghost use Rattle.lent.specs.Written.{written};
+ghost use Rattle.opening.specs.Opening.{areaPart, OpenOutcome};
 
 pub enum OpenAnswer {
     Opened(Header),
@@ -19,9 +25,20 @@ pub fn open(taps: u32, frame: &[u8], area: &mut [u8]) -> OpenAnswer
     }
     let body = judging::unscrambled(taps, frame);
     let inner = judging::inner_refusal(&body);
+    write_area(inner, &body, area);
     if inner != 0 {
         return OpenAnswer::Refused(inner);
     }
-    lent::write_at(area, 0, &body[32..1940]);
     OpenAnswer::Opened(reading::header_of(&body[..16]))
+}
+
+// Writes the area that follows the coded header to the front of the buffer, where the frame is not refused.
+fn write_area(refusal: u8, body: &[u8], area: &mut [u8])
+    requires { ⌜ (length (now body) ≡ 2072) × (areaSize ≤ length (now area)) ⌝ }
+    ensures { λ _. ⌜ now (area .exit) ≡ by refusal (written (now (area .entry)) 0 (areaPart (now (body .entry)))) (now (area .entry)) ⌝ }
+{
+    if refusal != 0 {
+        return;
+    }
+    lent::write_at(area, 0, &body[32..judging::AREA_END]);
 }

@@ -10,11 +10,10 @@ use lib.ListN.{length, length-append, length-replicate}
 use lib.Seq.{append-snoc}
 use lib.Dec.{eqb}
 use borrow.Author.Tests.{eqb-true, eq-eqb}
-use Rattle.basics.specs.Lists.{zeros, Bytes}
+use Rattle.basics.specs.Lists.{zeros, Bytes, isSome}
 use Rattle.link.specs.Link.{Piece}
-use Rattle.link.specs.Store.{isSome}
 use Rattle.packing.specs.Rules.{recordsBytes, areaOf, Stands, Allowed}
-use Rattle.packing.specs.Reading.{readFrom, read}
+use Rattle.packing.specs.Records.{readFrom, read}
 use Rattle.packing.proofs.Packed.{size, Sound, Packed, records-fit, packed-read, read-packed}
 
 -- how many bytes records take

@@ -1,4 +1,4 @@
--- What the next frame takes is a cut of the queue, and its records stand as the rules ask.
+-- What the next frame takes is a cut of the queue, of `load` bytes, and its records stand as the rules ask.
 use mathlib.Core.Path.{_≡_, refl, sym}
 use mathlib.Core.Bool.{Bool, true, false, cond}
 use mathlib.Core.Option.{Option, none, some}
@@ -9,10 +9,11 @@ use native.Mathlib.Decide.{decLe}
 use lib.ListN.{length, take, drop, length-take}
 use lib.Dec.{leb}
 use borrow.Author.Tests.{le-leb, lt-leb}
-use Rattle.link.specs.Link.{Packet, ArePackets, Queue, IsRest, IsQueue, Cut, cutNothing, cutLast, pieceThen, cutPacket, cutWaiting, cutRest, cutFrom, cut}
-use Rattle.link.specs.Packing.{busyWith, busy}
+use Rattle.link.specs.Link.{Packet, ArePackets, Piece, Queue, IsRest, IsQueue, busyWith, busy, Cut, cutNothing, cutLast, pieceThen}
+use Rattle.link.proofs.Machine.{cutPacket, cutWaiting, cutRest, cutFrom, cut}
+use Rattle.link.proofs.Sender.{cut-queue}
 use Rattle.packing.specs.Rules.{shortest}
-use Rattle.packing.specs.Filling.{fillFront, fillWaiting, fillFrom, fill, bytesIn, load}
+use Rattle.packing.specs.Filling.{fillFront, fillWaiting, fillFrom, fill}
 use Rattle.packing.proofs.Packed.{Packed}
 
 -- ---- one record more, as a loop makes them
@@ -40,6 +41,14 @@ waiting-full room [] h = refl
 waiting-full room (p ∷ ps) h = rw (lt-leb shortest room h)
 
 -- ---- a cut of the queue
+
+abbrev bytesIn : List Piece → ℕ
+bytesIn [] = 0
+bytesIn (piece ∷ pieces) = length (piece .bytes) + bytesIn pieces
+
+-- how many bytes of the queue the next frame takes
+unfoldable pub load : Queue → ℕ
+load queue = bytesIn (fill 1908 queue .pieces)
 
 -- a front packet of which n bytes are cut: all of them, and then more (`further`); or a part
 abbrev cutFront : Bool → List ℕ → (ℕ → Cut) → (ℕ → Cut) → ℕ → Cut
@@ -111,6 +120,10 @@ waiting-packed at room (p ∷ ps) l h a =
     go : Dec (shortest ≤ room) → Packed (at + (2 + length p)) (room - (2 + length p)) (more .pieces) → Packed at room (fillWaiting room (p ∷ ps) .pieces)
     go (yes y) k = rw (waiting-front room p ps y) (front-packed at room true p ps more (λ e. let z : _≡_ {A = ℕ} 0 1 = cc in absurd (omega arith)) (a .0 .0) y h k)
     go (no y) k = rw (waiting-full room (p ∷ ps) (omega arith)) l
+
+-- what is left is a queue again
+pub fill-queue : (q : Queue) → IsQueue q → IsQueue (fill 1908 q .left)
+fill-queue q h = rw (fill-cut q h) (cut-queue (load q) q h)
 
 pub fill-packed : (q : Queue) → IsQueue q → busy q ≡ true → Packed 0 1908 (fill 1908 q .pieces)
 unfolding fillWaiting

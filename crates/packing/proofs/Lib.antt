@@ -1,5 +1,5 @@
 pub mod Marks
-pub mod Reading
+pub mod Records
 pub mod Packed
 pub mod Allowed
 pub mod Filling

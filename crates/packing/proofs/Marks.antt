@@ -13,9 +13,9 @@ use borrow.Author.Tests.{eqb-true, eq-eqb, ne-eqb}
 use Rattle.basics.specs.Lists.{zeros}
 use Rattle.basics.proofs.Tests.{left-true, right-true}
 use Rattle.basics.proofs.Xor.{bit-cases}
-use Rattle.link.specs.Store.{markAt}
+use Rattle.link.specs.Parsing.{markAt}
 use Rattle.record_marks.specs.Mark.{isFirst, isLast, lengthIn}
-use Rattle.packing.specs.Reading.{allZero}
+use Rattle.packing.specs.Records.{allZero}
 
 -- the mark of a record, by its parts
 abbrev pub markOf : Bool → Bool → ℕ → ℕ
@@ -26,6 +26,12 @@ bit-set true = refl
 bit-set false = refl
 
 module _ (n : ℕ) (h : n < 2048) where
+  pub mark-fits : (first last : Bool) → markOf first last n < 65536
+  mark-fits true true = omega arith
+  mark-fits true false = omega arith
+  mark-fits false true = omega arith
+  mark-fits false false = omega arith
+
   pub mark-length : (first last : Bool) → lengthIn (markOf first last n) ≡ n
   mark-length true true = omega arith
   mark-length true false = omega arith

@@ -13,15 +13,16 @@ use Rattle.basics.specs.Lists.{zeros, Bytes}
 use Rattle.basics.proofs.Lists.{bytes-drop}
 use Rattle.link.proofs.RoundTrip.{marked-back}
 use Rattle.link.specs.Link.{Piece}
-use Rattle.link.specs.Store.{marked, markAt}
+use Rattle.link.specs.Store.{marked}
+use Rattle.link.specs.Parsing.{markAt}
 use Rattle.link.proofs.Store.{mark-back}
 use Rattle.packing.specs.declared.Record.{Record}
 use Rattle.packing.specs.declared.Found.the-variants.{At}
 use Rattle.packing.specs.Rules.{shortest, recordMark, recordBytes, recordsBytes}
 use Rattle.record_marks.specs.Mark.{lengthIn, mayBegin, mayEnd, isMark}
-use Rattle.packing.specs.Reading.{placed, recordAt, pieceOf, readFrom}
-use Rattle.packing.proofs.Marks.{mark-length, mark-spare, mark-first, mark-last, mark-is}
-use Rattle.packing.proofs.Reading as reading
+use Rattle.packing.specs.Records.{placed, recordAt, pieceOf, readFrom}
+use Rattle.packing.proofs.Marks.{mark-fits, mark-length, mark-spare, mark-first, mark-last, mark-is}
+use Rattle.packing.proofs.Records as records
 
 -- the bytes of a record
 abbrev pub size : Piece → ℕ
@@ -73,7 +74,7 @@ sound-mark at room p s =
 -- a record's bytes at a position
 module _ (p : Piece) (area behind : List ℕ) (at room : ℕ) (h : at + room ≡ length area) (e : drop at area ≡ recordBytes p ++ behind) (s : Sound at room p) where
   mark-here : markAt (drop at area) ≡ recordMark p
-  mark-here = ap markAt e ∙ mark-back (recordMark p) (p .bytes ++ behind)
+  mark-here = ap markAt e ∙ mark-back (recordMark p) (p .bytes ++ behind) (mark-fits (length (p .bytes)) (s .high) (p .first) (p .last))
 
   record-here : recordAt area at ≡ At (placed at (recordMark p))
   unfolding recordAt
@@ -106,12 +107,12 @@ module _ (p : Piece) (area behind : List ℕ) (at room : ℕ) (h : at + room ≡
 
 pub packed-read : (ps : List Piece) (area : List ℕ) (at room m : ℕ) → at + room ≡ length area → drop at area ≡ recordsBytes ps ++ zeros m → Packed at room ps
     → readFrom area at ≡ some ps
-packed-read [] area at room m h e k = reading.read-end area at (reading.end-at area at m k e)
+packed-read [] area at room m h e k = records.read-end area at (records.end-at area at m k e)
 packed-read (p ∷ ps) area at room m h e k =
     let behind = recordsBytes ps ++ zeros m in
     let f : drop at area ≡ recordBytes p ++ behind = e ∙ append-assoc (recordBytes p) (recordsBytes ps) (zeros m) in
     let s = k .0 in
-    reading.read-record area at (placed at (recordMark p)) (record-here p area behind at room h f s)
+    records.read-record area at (placed at (recordMark p)) (record-here p area behind at room h f s)
     ∙ rw (
       piece-here p area behind at room h f s,
       next-here p area behind at room h f s,
@@ -126,11 +127,11 @@ mark-bound (x ∷ []) b = omega (arith, b .0)
 mark-bound (x ∷ y ∷ l) b = omega (arith, b .0, b .1 .0)
 
 module _ (area : List ℕ) (at room : ℕ) (b : Bytes area) (h : at + room ≡ length area) (found : Record) (here : recordAt area at ≡ At found) where
-  l : reading.Lies area at found
-  l = reading.lies area at found here
+  l : records.Lies area at found
+  l = records.lies area at found here
 
   n : length (pieceOf area found .bytes) ≡ found .length
-  n = reading.piece-length area at found l
+  n = records.piece-length area at found l
 
   sound-here : Sound at room (pieceOf area found)
   sound-here = record {
@@ -144,8 +145,8 @@ module _ (area : List ℕ) (at room : ℕ) (b : Bytes area) (h : at + room ≡ l
   mark-found : recordMark (pieceOf area found) ≡ markAt (drop at area)
   mark-found =
       let mark = markAt (drop at area) in
-      let k = reading.at-mark area at found here in
-      let m = reading.marked at (length (drop at area)) mark (k .0) in
+      let k = records.at-mark area at found here in
+      let m = records.marked at (length (drop at area)) mark (k .0) in
       rw (n, ← k .1) (mark-is mark (mark-bound (drop at area) (bytes-drop at area b)) (m .spare))
 
   laid-here : recordBytes (pieceOf area found) ++ drop (at + size (pieceOf area found)) area ≡ drop at area
@@ -165,13 +166,13 @@ laid-before p ps left behind m e f = sym e ∙ ap (λ t. recordBytes p ++ t) f �
 pub read-packed : (ps : List Piece) (area : List ℕ) (at room : ℕ) → Bytes area → at + room ≡ length area → readFrom area at ≡ some ps
     → Packed at room ps × ((m : ℕ) × (drop at area ≡ recordsBytes ps ++ zeros m))
 read-packed [] area at room b h e =
-    let k = reading.at-end area at (reading.read-nothing area at e) in
+    let k = records.at-end area at (records.read-nothing area at e) in
     (k .0, (length (drop at area), k .1))
 read-packed (p ∷ ps) area at room b h e =
-    let g = reading.read-piece area at p ps e in
+    let g = records.read-piece area at p ps e in
     let q = pieceOf area (g .found) in
-    let l = reading.lies area at (g .found) (g .here) in
-    let n = reading.piece-length area at (g .found) l in
+    let l = records.lies area at (g .found) (g .here) in
+    let n = records.piece-length area at (g .found) l in
     let s = sound-here area at room b h (g .found) (g .here) in
     let next : at + size q ≡ g .found .start + g .found .length = omega (arith, n, l .start) in
     let more = read-packed ps area (at + size q) (room - size q) b (omega (arith, s .fits)) (ap (readFrom area) next ∙ g .behind) in

@@ -1,13 +1,13 @@
--- What the next frame takes from a busy queue (01, "Next frame"): while a packet waits and 3 or more bytes remain in the area, a record takes as much of the front
--- packet as fits. `fill` says it from any room and any queue on, as a loop goes; that it is a cut of the queue's next `load` bytes is `fill-cut` in proofs/Filling.antt.
+-- What the next frame takes from the queue (01, "Next frame"): while a packet waits and 3 or more bytes remain in the area, a record takes as much of the front
+-- packet as fits. `fill` says it from any room and any queue on, as a loop goes: the pieces of the records, and the queue that is left.
 use mathlib.Core.Bool.{Bool, true, false, cond}
 use mathlib.Core.Option.{Option, none, some}
 use mathlib.Core.List.{List, [], _∷_}
 use Prim.Native.Nat.{ℕ, _+_, _-_}
 use lib.ListN.{length, take, drop}
 use lib.Dec.{leb}
-use Rattle.link.specs.Link.{Packet, Piece, Queue, Cut, cutNothing, cutLast, pieceThen}
-use Rattle.packing.specs.Rules.{shortest, areaOf}
+use Rattle.link.specs.Link.{Packet, Queue, Cut, cutNothing, cutLast, pieceThen}
+use Rattle.packing.specs.Rules.{shortest}
 
 -- The record of the front packet, of which these bytes are unsent: all of them where they fit, and then there is more; otherwise as many as fit.
 abbrev pub fillFront : ℕ → Bool → List ℕ → List Packet → Cut → Cut
@@ -31,17 +31,3 @@ fillFrom room (some rest) packets = cond (leb shortest room)
 -- the records that go into `room` bytes, and the queue that is left
 abbrev pub fill : ℕ → Queue → Cut
 fill room queue = fillFrom room (queue .rest) (queue .waiting)
-
--- ---------------------------------------------------------------- the next frame
-
-abbrev pub bytesIn : List Piece → ℕ
-bytesIn [] = 0
-bytesIn (piece ∷ pieces) = length (piece .bytes) + bytesIn pieces
-
--- how many bytes of the queue it takes
-unfoldable pub load : Queue → ℕ
-load queue = bytesIn (fill 1908 queue .pieces)
-
--- its area
-unfoldable pub area : Queue → List ℕ
-area queue = areaOf (fill 1908 queue .pieces)

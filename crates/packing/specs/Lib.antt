@@ -1,3 +1,3 @@
 pub mod Rules
 pub mod Filling
-pub mod Reading
+pub mod Records

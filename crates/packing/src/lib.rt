@@ -1,10 +1,11 @@
 // The bench's own packing: reading the records of a DATA area. What an area may hold is `Allowed` in specs/Rules.antt, what a frame takes from the queue is
 // `fill`, which crate filling writes.
+use basics::sizes;
 ghost use mathlib.Core.Path.{_≡_};
 ghost use Prim.Native.Nat.{_+_, _<_};
 ghost use lib.ListN.{length, drop};
-ghost use Rattle.link.specs.Store.{isSome};
-ghost use Rattle.packing.specs.Reading.{allZero, endAt, recordAt, read};
+ghost use Rattle.basics.specs.Lists.{isSome};
+ghost use Rattle.packing.specs.Records.{allZero, endAt, recordAt, read};
 
 // A record: the marks of its piece, and where its bytes stand in the area.
 pub struct Record {
@@ -25,7 +26,7 @@ pub enum Found {
 pub fn is_allowed(area: &[u8]) -> bool
     ensures { λ r. ⌜ r ≡ isSome (read (now (area .entry))) ⌝ }
 {
-    if area.len() != 1908 {
+    if area.len() != sizes::AREA_SIZE {
         return false;
     }
     let mut at: usize = 0;
@@ -64,8 +65,8 @@ pub fn record_at(area: &[u8], at: usize) -> Found
     if record_marks::is_mark(at, total - at, mark) {
         let start = at + 2;
         return Found::At(Record {
-            first: mark / 32768 % 2 == 1,
-            last: mark / 16384 % 2 == 1,
+            first: mark / sizes::FIRST_BIT % 2 == 1,
+            last: mark / sizes::LAST_BIT % 2 == 1,
             start,
             length,
         });

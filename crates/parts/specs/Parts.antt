@@ -4,7 +4,8 @@ use mathlib.Core.List.{List}
 use Prim.Native.Nat.{ℕ}
 use lib.Dec.{eqb, leb}
 use lib.ListN.{length, take}
-use Rattle.lent.specs.Outcome.{by}
+use Rattle.basics.specs.Sizes.{areaSize, frameSize}
+use Rattle.lent.specs.Refusals.{by}
 use Rattle.lent.specs.Written.{written}
 use Rattle.interleaving.specs.Payload.{codedPayload}
 use Rattle.frame.specs.Frame.{frameBytes}
@@ -35,7 +36,7 @@ parityOut payload = cond (eqb (length payload) 2040) (codedPayload (take 1912 pa
 
 -- the output with a frame at its front, where the area has 1,908 bytes and the output 2,081 or more; otherwise as it was
 abbrev pub builtOut : ℕ → List ℕ → List ℕ → List ℕ
-builtOut taps area out = cond (eqb (length area) 1908 && leb 2081 (length out)) (written out 0 (frameBytes taps plainHeader area)) out
+builtOut taps area out = cond (eqb (length area) areaSize && leb frameSize (length out)) (written out 0 (frameBytes taps plainHeader area)) out
 
 -- the buffer with the frame's area at its front, where the frame is not refused
 abbrev pub openedOut : ℕ → List ℕ → List ℕ → List ℕ

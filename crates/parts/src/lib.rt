@@ -1,4 +1,5 @@
 // Parts of the work on a frame, for C to call: bench/run counts the instructions of each. The library's own calls for C stand in `taqwelim`.
+use basics::sizes;
 use counts::Rxfn;
 use counts::Txfn;
 use fast_channel::FastChannel;
@@ -11,7 +12,7 @@ ghost use Rattle.crc.specs.Crc.{crc-32};
 ghost use Rattle.scrambler.specs.Scrambler.{scrambled};
 ghost use Rattle.interleaving.specs.Payload.{areCodewords};
 ghost use Rattle.opening.specs.Opening.{openRefusal, openNumber};
-ghost use Rattle.header.specs.Header.{bit};
+ghost use Rattle.header.specs.Header.{flagBit};
 ghost use Rattle.parts.specs.Parts.{plainHeader, parityOut, builtOut, openedOut};
 
 #[no_mangle]
@@ -41,7 +42,7 @@ pub extern "C" fn part_write_parity(payload: &mut [u8])
 
 #[no_mangle]
 pub extern "C" fn part_are_codewords(payload: &[u8]) -> u8
-    ensures { λ r. ⌜ r ≡ bit (areCodewords (now (payload .entry))) ⌝ }
+    ensures { λ r. ⌜ r ≡ flagBit (areCodewords (now (payload .entry))) ⌝ }
 {
     header::coding::bit_of(interleaving::are_codewords(payload))
 }
@@ -70,10 +71,10 @@ fn plain_header() -> Header
 pub extern "C" fn part_build(taps: u32, area: &[u8], out: &mut [u8])
     ensures { λ _. ⌜ now (out .exit) ≡ builtOut taps (now (area .entry)) (now (out .entry)) ⌝ }
 {
-    if area.len() != 1908 {
+    if area.len() != sizes::AREA_SIZE {
         return;
     }
-    if out.len() < 2081 {
+    if out.len() < sizes::FRAME_SIZE {
         return;
     }
     frame::build(taps, plain_header(), area, out);

@@ -124,3 +124,16 @@ fn digests(count: Count) -> Count {
 pub fn tried() -> Count {
     digests(generators(powers(check_sums(Count::none()))))
 }
+
+// Values that are wrong, a number and bytes: both have to come out as different.
+pub fn planted() -> Count {
+    let found = reed_solomon::register::generator();
+    let powers = generator_of_powers();
+    Count::none()
+        .with_number(b"planted: CRC-16 of nothing", crc::crc_16(&[]) as u64, 1, 4)
+        .with_bytes(
+            b"planted: generator without its last:",
+            &found[0..16],
+            &powers,
+        )
+}

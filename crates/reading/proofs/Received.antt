@@ -1,46 +1,51 @@
 -- 16 bytes that are not refused are those of the header that is read, which may be sent.
-use mathlib.Core.Path.{_≡_, ap, _∙_}
+use mathlib.Core.Path.{_≡_, refl, sym, ap, ap₂, _∙_}
 use mathlib.Core.Bool.{true, _&&_, and-eq-true-iff}
-use mathlib.Core.List.{List}
+use mathlib.Core.List.{List, _++_}
 use Prim.Native.Nat.{ℕ, _+_, _*_, _/_, _%_, _≤_}
 use native.Mathlib.Omega.{arith}
-use borrow.Author.Tests.{leb-true, eqb-true}
-use lib.Dec.{eqb, leb}
-use lib.ListN.{length, getD}
+use lib.Dec.{lit<}
+use lib.ListN.{length, getD, take, drop, take-append-drop}
 use Rattle.basics.specs.Lists.{Bytes, entries}
-use Rattle.lent.proofs.Outcome.{gate}
+use Rattle.lent.proofs.Refusals.{unless-passed}
+use Rattle.lent.specs.Refusals.{firstOf}
 use Rattle.crc.specs.Crc.{crc-16}
-use Rattle.basics.specs.Numbers.{numberAt}
-use Rattle.basics.proofs.Lists.{byte, byte-at, entries-front, entries-rest}
+use Rattle.basics.specs.Numbers.{highFirst}
+use Rattle.basics.proofs.Lists.{byte, byte-at, entries-front}
+use Rattle.basics.proofs.Tests.{same-true}
 use Rattle.basics.proofs.Numbers.{bytes-of-number, number-lt}
 use Rattle.fast_channel.specs.FastChannel.{messageOf, payloadRule}
 use Rattle.header.specs.Header.{fieldBytes, headerBytes, rxfnRule, headerFits}
-use Rattle.reading.specs.Reading.{fieldsOf, headerOf, sumHolds, reservedOnes, rulesHold, headerRefusal}
+use Rattle.reading.specs.Reading.{opcodeIn, payloadIn, fieldsOf, headerOf, sumHolds, topOnes, reservedOnes, rulesHold, headerTable}
 use Rattle.fast_channel.proofs.Channel.{Carries, message-carries}
-use Rattle.reading.proofs.Bits.{d4-again}
+use Rattle.reading.proofs.Bits.{d4-again, top-from}
 use Rattle.reading.proofs.Sent.{fits-header}
 
-module _ (d : List ℕ) (bytes : Bytes d) (size : length d ≡ 16) (none : headerRefusal d ≡ 0) where
+module _ (d : List ℕ) (bytes : Bytes d) (size : length d ≡ 16) (none : firstOf (headerTable d) ≡ 0) where
   passed : (sumHolds d ≡ true) × ((reservedOnes d ≡ true) × (rulesHold d ≡ true))
-  unfolding headerRefusal
   passed =
-      let first = gate (sumHolds d) _ 9 (omega arith) none in
-      let second = gate (reservedOnes d) _ 10 (omega arith) (first .1) in
-      (first .0, (second .0, gate (rulesHold d) 0 11 (omega arith) (second .1) .0))
+      let first = unless-passed 9 (sumHolds d) _ (omega arith) none in
+      let second = unless-passed 10 (reservedOnes d) _ (omega arith) (first .1) in
+      (first .0, (second .0, unless-passed 11 (rulesHold d) _ (omega arith) (second .1) .0))
 
   ones : (240 ≤ getD d 4 0) × ((192 ≤ getD d 10 0) × (128 ≤ getD d 11 0))
   unfolding reservedOnes
   ones =
-      let last = and-eq-true-iff (leb 240 (getD d 4 0) && leb 192 (getD d 10 0)) (leb 128 (getD d 11 0)) .0 (passed .1 .0) in
-      let front = and-eq-true-iff (leb 240 (getD d 4 0)) (leb 192 (getD d 10 0)) .0 (last .0) in
-      (leb-true 240 _ (front .0), (leb-true 192 _ (front .1), leb-true 128 _ (last .1)))
+      let last = and-eq-true-iff (topOnes 4 (getD d 4 0) && topOnes 2 (getD d 10 0)) (topOnes 1 (getD d 11 0)) .0 (passed .1 .0) in
+      let front = and-eq-true-iff (topOnes 4 (getD d 4 0)) (topOnes 2 (getD d 10 0)) .0 (last .0) in (
+        top-from 4 240 (getD d 4 0) refl (lit< tt) (byte-at d bytes 4) (front .0),
+        (
+          top-from 2 192 (getD d 10 0) refl (lit< tt) (byte-at d bytes 10) (front .1),
+          top-from 1 128 (getD d 11 0) refl (lit< tt) (byte-at d bytes 11) (last .1),
+        ),
+      )
 
-  rules : (rxfnRule (eqb (getD d 4 0 / 4 % 2) 1) (numberAt 2 2 d) ≡ true) × (payloadRule (getD d 11 0 % 16) (numberAt 12 2 d) ≡ true)
+  rules : (rxfnRule (fieldsOf d .valid) (fieldsOf d .rxfn .0) ≡ true) × (payloadRule (opcodeIn d) (payloadIn d) ≡ true)
   unfolding rulesHold
-  rules = and-eq-true-iff _ (payloadRule (getD d 11 0 % 16) (numberAt 12 2 d)) .0 (passed .1 .1)
+  rules = and-eq-true-iff _ (payloadRule (opcodeIn d) (payloadIn d)) .0 (passed .1 .1)
 
-  carries : Carries (getD d 11 0 % 16) (numberAt 12 2 d) (messageOf (getD d 11 0 % 16) (numberAt 12 2 d))
-  carries = message-carries (getD d 11 0 % 16) (numberAt 12 2 d) (omega arith) (number-lt d bytes 12 2) (rules .1)
+  carries : Carries (opcodeIn d) (payloadIn d) (messageOf (opcodeIn d) (payloadIn d))
+  carries = message-carries (opcodeIn d) (payloadIn d) (omega arith) (number-lt d bytes 12 2) (rules .1)
 
   pub received-fits : headerFits (headerOf d) ≡ true
   unfolding headerOf fieldsOf
@@ -75,14 +80,13 @@ module _ (d : List ℕ) (bytes : Bytes d) (size : length d ≡ 16) (none : heade
         bytes-of-number d bytes 12 2,
       )
 
-  sum-again : crc-16 (fieldBytes (headerOf d)) ≡ 256 * getD d 14 0 + getD d 15 0
+  front-again : fieldBytes (headerOf d) ≡ take 14 d
+  front-again = fields-again ∙ entries-front d 14 (omega arith)
+
+  sum-again : highFirst 2 (crc-16 (fieldBytes (headerOf d))) ≡ drop 14 d
   unfolding sumHolds
-  sum-again = ap crc-16 (fields-again ∙ entries-front d 14 (omega arith)) ∙ eqb-true _ _ (passed .0)
+  sum-again = ap (λ (l : List ℕ). highFirst 2 (crc-16 l)) front-again ∙ sym (same-true (drop 14 d) (highFirst 2 (crc-16 (take 14 d))) (passed .0))
 
   pub header-again : headerBytes (headerOf d) ≡ d
-  unfolding headerBytes entries
-  header-again =
-      let sum = crc-16 (fieldBytes (headerOf d)) in
-      let high : sum / 256 % 256 ≡ getD d 14 0 = omega (arith, sum-again, byte-at d bytes 14, byte-at d bytes 15) in
-      let low : sum % 256 ≡ getD d 15 0 = omega (arith, sum-again, byte-at d bytes 15) in
-      rw (high, low, fields-again) (entries-rest d 0 16 size)
+  unfolding headerBytes
+  header-again = ap₂ (λ (a b : List ℕ). a ++ b) front-again sum-again ∙ take-append-drop 14 d

@@ -1,20 +1,22 @@
 -- A header that may be sent is read back from its bytes.
-use mathlib.Core.Path.{_≡_}
+use mathlib.Core.Path.{_≡_, refl}
 use mathlib.Core.Bool.{true, and-eq-true-iff}
-use Prim.Native.Nat.{ℕ, _+_, _*_, _/_, _%_, _<_}
+use Prim.Native.Nat.{ℕ, _+_, _/_, _%_, _<_}
 use native.Mathlib.Omega.{arith}
-use borrow.Author.Tests.{ltb-true, lt-ltb, le-leb, eq-eqb}
+use borrow.Author.Tests.{ltb-true, lt-ltb}
+use lib.Dec.{lit<}
 use Rattle.crc.specs.Crc.{crc-16}
-use Rattle.crc.proofs.Bytes.{crc-16-lt}
-use Rattle.basics.specs.Numbers.{fitsBits}
+use Rattle.basics.specs.Numbers.{fitsBits, highFirst}
+use Rattle.lent.specs.Refusals.{firstOf}
 use Rattle.fast_channel.specs.FastChannel.{opcodeOf, payloadOf, messageFits}
 use Rattle.header.specs.Header.{flagsByte, channelByte, fieldBytes, headerBytes, rxfnRule, fieldsFit, headerFits}
-use Rattle.reading.specs.Reading.{fieldsOf, headerOf, sumHolds, reservedOnes, rulesHold, headerRefusal}
+use Rattle.reading.specs.Reading.{fieldsOf, headerOf, sumHolds, reservedOnes, rulesHold, headerTable}
 use Rattle.fast_channel.specs.declared.FastChannel.{FastChannel}
 use Rattle.header.specs.declared.Header.{Header}
 use Rattle.basics.proofs.Numbers.{number-of-bytes}
+use Rattle.basics.proofs.Tests.{same-self}
 use Rattle.fast_channel.proofs.Channel.{message-back, rule-kept, payload-lt, opcode-lt}
-use Rattle.reading.proofs.Bits.{d4-ack, d4-valid, d4-kind}
+use Rattle.reading.proofs.Bits.{d4-ack, d4-valid, d4-kind, d4-lt, from-top}
 
 -- what a header that may be sent has, field by field
 pub record Sendable (header : Header) : Type 0 where
@@ -83,19 +85,20 @@ module _ (header : Header) (s : Sendable header) where
 
   sum-back : sumHolds (headerBytes header) ≡ true
   unfolding sumHolds headerBytes fieldBytes
-  sum-back =
-      let sum = crc-16 (fieldBytes header) in
-      let sum-lt = crc-16-lt (fieldBytes header) in
-      eq-eqb sum (256 * (sum / 256 % 256) + sum % 256) (omega arith)
+  sum-back = same-self (highFirst 2 (crc-16 (fieldBytes header)))
 
   ones-sent : reservedOnes (headerBytes header) ≡ true
   unfolding reservedOnes headerBytes fieldBytes
   ones-sent =
       let f = header .fields in
-      rw (le-leb 240 (flagsByte (f .ack) (f .valid) (header .kind)) (omega arith), le-leb 192 (192 + f .seconds % 64) (omega arith), le-leb 128 (channelByte (f .applies) (f .message)) (omega arith))
+      rw (
+        from-top 4 240 (flagsByte (f .ack) (f .valid) (header .kind)) refl (lit< tt) (omega arith) (d4-lt (f .ack) (f .valid) (header .kind)),
+        from-top 2 192 (192 + f .seconds % 64) refl (lit< tt) (omega arith) (omega arith),
+        from-top 1 128 (channelByte (f .applies) (f .message)) refl (lit< tt) (omega arith) (omega arith),
+      )
 
   rules-back : rulesHold (headerBytes header) ≡ true
-  unfolding rulesHold headerBytes fieldBytes
+  unfolding rulesHold fieldsOf headerBytes fieldBytes
   rules-back =
       let f = header .fields in
       rw (
@@ -107,6 +110,6 @@ module _ (header : Header) (s : Sendable header) where
       )
       (rule-kept (f .message) (s .message))
 
-  pub none-refused : headerRefusal (headerBytes header) ≡ 0
-  unfolding headerRefusal
+  pub none-refused : firstOf (headerTable (headerBytes header)) ≡ 0
+  unfolding firstOf
   none-refused = rw (sum-back, ones-sent, rules-back)

@@ -4,7 +4,7 @@ use mathlib.Core.Bool.{true}
 use mathlib.Core.List.{List}
 use Prim.Native.Nat.{ℕ}
 use Rattle.basics.specs.Lists.{Bytes}
-use Rattle.lent.proofs.Outcome.{accepted}
+use Rattle.lent.proofs.Refusals.{accepted}
 use Rattle.header.specs.Header.{headerBytes, headerFits}
 use Rattle.reading.specs.Reading.{headerOf, readRefusal, readHeader}
 use Rattle.header.specs.declared.Header.{Header}

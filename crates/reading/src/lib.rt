@@ -10,7 +10,8 @@ ghost use mathlib.Core.List.{[], _∷_};
 ghost use Prim.Native.Nat.{_+_, _*_, _≤_};
 ghost use lib.ListN.{length};
 ghost use Rattle.basics.specs.Numbers.{numberAt};
-ghost use Rattle.reading.specs.Reading.{kindOf, fieldsOf, headerOf, sumHolds, reservedOnes, rulesHold, headerRefusal, readRefusal, readHeader};
+ghost use Rattle.lent.specs.Refusals.{firstOf};
+ghost use Rattle.reading.specs.Reading.{kindOf, fieldsOf, headerOf, sumHolds, reservedOnes, rulesHold, headerTable, readRefusal, ReadHeaderOutcome};
 
 pub enum ReadAnswer {
     Read(Header),
@@ -94,7 +95,7 @@ fn rules_hold(bytes: &[u8]) -> bool
 // 9, 10 or 11 where the 16 bytes are refused, and 0 where they are read.
 pub fn header_refusal(bytes: &[u8]) -> u8
     requires { ⌜ length (now bytes) ≡ 16 ⌝ }
-    ensures { λ r. ⌜ r ≡ headerRefusal (now (bytes .entry)) ⌝ }
+    ensures { λ r. ⌜ r ≡ firstOf (headerTable (now (bytes .entry))) ⌝ }
 {
     let sum = sum_holds(bytes);
     let ones = reserved_ones(bytes);
@@ -148,7 +149,7 @@ fn read_refusal(bytes: &[u8]) -> u8
 
 // Reads a header from exactly 16 bytes. Refusals: 2, 9, 10, 11.
 pub fn read_header(bytes: &[u8]) -> ReadAnswer
-    ensures { λ r. ⌜ r ≡ readHeader (now (bytes .entry)) ⌝ }
+    ensures { λ r. ⌜ ReadHeaderOutcome (now (bytes .entry)) r ⌝ }
 {
     let number = read_refusal(bytes);
     if number != 0 {

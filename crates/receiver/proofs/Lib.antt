@@ -1,1 +1,4 @@
+pub mod Tables
 pub mod Applying
+pub mod Laws
+pub mod Machine

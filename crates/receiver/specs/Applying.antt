@@ -1,32 +1,32 @@
--- Applying an opened frame to the receiver's state, the hold and the list (01, "Receiving"), for all inputs. What the pieces of a frame do stands in `Link`: `receive`, by
--- `missed`, `heldAfter`, `fits` (15) and `onPieces`. Here: which receiver of `Link` a state and the hold's bytes stand for, and what is written back.
+-- Receiving an opened frame (01, "Receiving"), for all inputs: what was missed and what is still held, the records of the area and what they do, the refusals,
+-- and what is written back. What one record does is `onPiece`, and what 15 asks is `fits`, both in crates/link/specs/Link.antt.
 use mathlib.Core.Path.{_≡_}
 use mathlib.Core.Bool.{Bool, true, false, cond, _&&_}
 use mathlib.Core.Option.{Option, none, some}
-use mathlib.Core.List.{List, []}
+use mathlib.Core.List.{List, [], _∷_, _++_}
 use Prim.Native.Nat.{ℕ}
 use lib.Dec.{eqb, leb}
 use lib.ListN.{length, take}
+use Rattle.basics.specs.Sizes.{areaSize, mostHeld, holdSize, listSize}
+use Rattle.basics.specs.Numbers.{above}
 use Rattle.basics.specs.Counts.{nextTxfn}
-use Rattle.lent.specs.Outcome.{by}
+use Rattle.lent.specs.Refusals.{Row, _when_, _unless_, firstOf, by, answerBy}
 use Rattle.lent.specs.Written.{written}
 use Rattle.header.specs.declared.FrameKind.{FrameKind}
 use Rattle.header.specs.declared.FrameKind.the-variants.{Idle, Data, Type2, Type3}
 use Rattle.header.specs.declared.Header.{Header}
 use Rattle.counts.specs.declared.Txfn.{Txfn}
-use Rattle.link.specs.Link as link
-use Rattle.link.specs.Packing.{receiveRead}
+use Rattle.link.specs.Link.{Piece, Step, missed, heldAfter, onPieces, fits}
+use Rattle.basics.specs.Lists.{isSome}
 use Rattle.link.specs.Store.{layoutPackets}
-use Rattle.fitting.specs.Fitting.{piecesRefusal}
-use Rattle.growing.specs.declared.Joined.{Joined}
-use Rattle.packing.specs.Reading.{read}
+use Rattle.packing.specs.Records.{read}
 use Rattle.receiver.specs.declared.Expected.{Expected}
 use Rattle.receiver.specs.declared.Expected.the-variants.{None, Frame}
 use Rattle.receiver.specs.declared.Receiver.{Receiver}
 use Rattle.receiver.specs.declared.ApplyAnswer.{ApplyAnswer}
 use Rattle.receiver.specs.declared.ApplyAnswer.the-variants.{Applied, Refused}
 
--- ---------------------------------------------------------------- the receiver that a state and the hold's bytes stand for
+-- ---------------------------------------------------------------- the state
 
 -- none is expected, and nothing is held
 abbrev pub freshReceiver : Receiver
@@ -36,11 +36,11 @@ abbrev pub expectedNumber : Expected → Option ℕ
 expectedNumber None = none
 expectedNumber (Frame txfn) = some (txfn .0)
 
--- the held part is the first bytes of the hold
-abbrev pub standing : Receiver → List ℕ → link.Receiver
-standing receiver hold = record { expected = expectedNumber (receiver .expected); held = take (receiver .held) hold }
+-- after an accepted frame of any type: its TXFN plus 1 is expected, and so many bytes are held
+abbrev pub receiverThen : Txfn → ℕ → Receiver
+receiverThen txfn held = record { expected = Frame (record { 0 = nextTxfn (txfn .0) }); held = held }
 
--- ---------------------------------------------------------------- what comes of a frame
+-- ---------------------------------------------------------------- the records
 
 abbrev pub isData : FrameKind → Bool
 isData Idle = false
@@ -48,75 +48,69 @@ isData Data = true
 isData Type2 = false
 isData Type3 = false
 
--- the pieces of a frame; only a DATA area is looked into; none: it is against the packing rules (14)
-abbrev pub piecesOf : FrameKind → List ℕ → Option (List link.Piece)
+-- the records of an area; only a DATA area is looked into; none: it is against the packing rules
+abbrev pub piecesOf : FrameKind → List ℕ → Option (List Piece)
 piecesOf kind area = cond (isData kind) (read area) (some [])
 
-unfoldable pub received : Header → List ℕ → Receiver → List ℕ → link.Received
-received header area receiver hold = receiveRead (standing receiver hold) (header .txfn .0) (piecesOf (header .kind) area)
+abbrev pub orNone : Option (List Piece) → List Piece
+orNone none = []
+orNone (some pieces) = pieces
 
--- the paper's number and values for each case of what comes of a frame
-abbrev pub numberOf : link.Answer → ℕ
-numberOf (link.taken missed packets) = 0
-numberOf (link.refused number) = number
+-- ---------------------------------------------------------------- refusals and answers
 
-abbrev pub missedOf : link.Answer → ℕ
-missedOf (link.taken missed packets) = missed
-missedOf (link.refused number) = 0
+-- the area (or the frame) is of its size, the hold of 9,000 bytes, and the list of 10,907 or more
+abbrev pub areSized : ℕ → List ℕ → List ℕ → List ℕ → Bool
+areSized size bytes hold list = eqb (length bytes) size && eqb (length hold) holdSize && leb listSize (length list)
 
-abbrev pub packetsOf : link.Answer → List link.Packet
-packetsOf (link.taken missed packets) = packets
-packetsOf (link.refused number) = []
+-- 2: what is lent is not of its size. 3: the held length is above 8,999.
+abbrev pub buffersTable : ℕ → List ℕ → ℕ → List ℕ → List ℕ → List Row
+buffersTable size bytes held hold list =
+    2 unless areSized size bytes hold list
+    ∷ 3 when above held mostHeld
+    ∷ []
 
--- the state after an accepted frame: the number after its own is expected
-abbrev pub steppedReceiver : Header → link.Received → Receiver
-steppedReceiver header outcome = record { expected = Frame (record { 0 = nextTxfn (header .txfn .0) }); held = length (outcome .state .held) }
+-- 14: a DATA area against the packing rules. 15: the first record continues a held part, none missed, and the sum passes 9,000, or 8,999 without "last".
+abbrev pub areaTable : List ℕ → Option (List Piece) → List Row
+areaTable held records =
+    14 unless isSome records
+    ∷ 15 unless fits held (orNone records)
+    ∷ []
 
--- the list that it leaves
-abbrev pub listOf : link.Received → List ℕ
-listOf outcome = layoutPackets (packetsOf (outcome .answer))
-
--- ---------------------------------------------------------------- the call
-
--- 2 and 3: the sizes of what is lent (bytes of an area or of a frame, the hold, the list), and how much is held; 0 for neither
-unfoldable pub buffersRefusal : ℕ → List ℕ → ℕ → List ℕ → List ℕ → ℕ
-buffersRefusal size bytes held hold list =
-    cond (eqb (length bytes) size && eqb (length hold) 9000 && leb 10907 (length list)) (cond (leb held 8999) 0 3) 2
-
--- The paper's number for each case of the answer, and the case for a number: `apply-numbers` in proofs/Applying.antt ties the two.
+-- the paper's number for each case of the answer (01, last section)
 abbrev pub applyNumber : ApplyAnswer → ℕ
 applyNumber (Applied missed packets listed receiver) = 0
 applyNumber (Refused number) = number
 
-abbrev pub applyAnswer : ℕ → Header → link.Received → ApplyAnswer
-applyAnswer number header outcome =
-    by number
-    (Applied (missedOf (outcome .answer)) (length (packetsOf (outcome .answer))) (length (listOf outcome)) (steppedReceiver header outcome))
-    (Refused number)
+-- ---------------------------------------------------------------- the call
 
-module _ (header : Header) (area : List ℕ) (receiver : Receiver) (hold list : List ℕ) where
-  abbrev outcome : link.Received
-  outcome = received header area receiver hold
+-- (TXFN − expected) modulo 65,536; 0 where none was expected
+abbrev pub missedCount : Header → Receiver → ℕ
+missedCount header receiver = missed (expectedNumber (receiver .expected)) (header .txfn .0)
 
-  -- the lowest number that applies, 0 for none: 2 and 3, then 14 and 15
-  unfoldable pub applyRefusal : ℕ
-  applyRefusal =
-      by (buffersRefusal 1908 area (receiver .held) hold list) (numberOf (outcome .answer)) (buffersRefusal 1908 area (receiver .held) hold list)
+-- the held part, the first bytes of the hold; it is dropped before the area is read where frames were missed
+abbrev pub heldPart : Header → Receiver → List ℕ → List ℕ
+heldPart header receiver hold = heldAfter (missedCount header receiver) (take (receiver .held) hold)
 
-  -- The whole outcome of `apply`: the answer, and the bytes of the hold and of the list. The part now held is the front of the hold; completing a packet, dropping, skipping
-  -- and other types so leave the hold's bytes. The list is written from byte 0 on. All other bytes keep their values.
-  pub record ApplyOutcome (r : ApplyAnswer) (hold′ list′ : List ℕ) : Type 0 where
-    pub answer : r ≡ applyAnswer applyRefusal header outcome
-    pub held : hold′ ≡ by applyRefusal (written hold 0 (outcome .state .held)) hold
-    pub listed : list′ ≡ by applyRefusal (written list 0 (listOf outcome)) list
+module _ (header : Header) (area : List ℕ) (receiver : Receiver) (hold : List ℕ) where
+  -- what the records do in order: the part then held, and the packets that they complete
+  unfoldable pub joined : Step
+  joined = onPieces (heldPart header receiver hold) (orNone (piecesOf (header .kind) area))
 
--- ---------------------------------------------------------------- private calls
+  -- the list: per packet a two-byte length, high byte first, and the packet
+  abbrev pub listThen : List ℕ
+  listThen = layoutPackets (joined .out)
 
--- 14 and 15 for a frame of this kind, where this part is held
-abbrev pub areaRefusal : FrameKind → List ℕ → List ℕ → ℕ
-areaRefusal kind area held = piecesRefusal held (piecesOf kind area)
+  module _ (list : List ℕ) where
+    abbrev pub applyTable : List Row
+    applyTable = buffersTable areaSize area (receiver .held) hold list ++ areaTable (heldPart header receiver hold) (piecesOf (header .kind) area)
 
--- what is answered where nothing is refused, by what was joined
-abbrev pub joinedAnswer : ℕ → Txfn → Joined → ApplyAnswer
-joinedAnswer missed txfn joined =
-    Applied missed (joined .packets) (joined .listed) (record { expected = Frame (record { 0 = nextTxfn (txfn .0) }); held = joined .held })
+    unfoldable pub applyRefusal : ℕ
+    applyRefusal = firstOf applyTable
+
+    -- The whole outcome of `apply`: the answer, and the bytes of the hold and of the list. The part then held is the front of the hold; completing a packet,
+    -- dropping, skipping and other types so leave the hold's bytes. The list is written from byte 0 on. All other bytes keep their values.
+    pub record ApplyOutcome (r : ApplyAnswer) (hold′ list′ : List ℕ) : Type 0 where
+      pub answer : r ≡ answerBy applyRefusal
+          (Applied (missedCount header receiver) (length (joined .out)) (length listThen) (receiverThen (header .txfn) (length (joined .held)))) Refused
+      pub held : hold′ ≡ by applyRefusal (written hold 0 (joined .held)) hold
+      pub listed : list′ ≡ by applyRefusal (written list 0 listThen) list

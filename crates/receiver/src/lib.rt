@@ -1,4 +1,5 @@
 // The receiver: packets come out of opened frames whole and in their turn, or not at all, and the frames missed are counted (01, "Receiving").
+use basics::sizes;
 use counts::Txfn;
 use growing::Joined;
 use header::FrameKind;
@@ -6,8 +7,10 @@ use header::Header;
 ghost use mathlib.Core.Path.{_≡_};
 ghost use mathlib.Core.Bool.{cond};
 ghost use lib.Dec.{eqb};
+ghost use Rattle.lent.specs.Refusals.{firstOf};
 ghost use Rattle.link.specs.Link.{missed};
-ghost use Rattle.receiver.specs.Applying.{freshReceiver, expectedNumber, isData, areaRefusal, buffersRefusal, joinedAnswer, ApplyOutcome};
+ghost use Rattle.receiver.specs.declared.ApplyAnswer.the-variants.{Applied};
+ghost use Rattle.receiver.specs.Applying.{freshReceiver, expectedNumber, receiverThen, isData, piecesOf, areSized, buffersTable, areaTable, ApplyOutcome};
 
 // The number that the next frame should have; none before the first frame.
 pub enum Expected {
@@ -71,35 +74,49 @@ fn is_data(kind: FrameKind) -> bool
     }
 }
 
-// 2 and 3, for bytes that are to be of this size; 0 for neither.
-pub fn buffers_refusal(size: usize, bytes: &[u8], held: usize, hold: &[u8], list: &[u8]) -> u8
-    ensures { λ r. ⌜ r ≡ buffersRefusal size (now (bytes .entry)) held (now (hold .entry)) (now (list .entry)) ⌝ }
+// Whether the lent bytes have their sizes, and those of the area or of the frame this one (2 where not).
+fn are_sized(size: usize, bytes: &[u8], hold: &[u8], list: &[u8]) -> bool
+    ensures { λ r. ⌜ r ≡ areSized size (now (bytes .entry)) (now (hold .entry)) (now (list .entry)) ⌝ }
 {
     if bytes.len() != size {
+        return false;
+    }
+    if hold.len() != sizes::HOLD_SIZE {
+        return false;
+    }
+    sizes::LIST_SIZE <= list.len()
+}
+
+// 2 and 3, for bytes that are to be of this size; 0 for neither.
+pub fn buffers_refusal(size: usize, bytes: &[u8], held: usize, hold: &[u8], list: &[u8]) -> u8
+    ensures { λ r. ⌜ r ≡ firstOf (buffersTable size (now (bytes .entry)) held (now (hold .entry)) (now (list .entry))) ⌝ }
+{
+    let sized = are_sized(size, bytes, hold, list);
+    if !sized {
         return 2;
     }
-    if hold.len() != 9000 {
-        return 2;
-    }
-    if list.len() < 10907 {
-        return 2;
-    }
-    if 8999 < held { 3 } else { 0 }
+    if sizes::MOST_HELD < held { 3 } else { 0 }
 }
 
 // 14 and 15; 0 for neither. Only a DATA area is looked into.
 fn area_refusal(kind: FrameKind, area: &[u8], held: &[u8]) -> u8
-    ensures { λ r. ⌜ r ≡ areaRefusal kind (now (area .entry)) (now (held .entry)) ⌝ }
+    ensures { λ r. ⌜ r ≡ firstOf (areaTable (now (held .entry)) (piecesOf kind (now (area .entry)))) ⌝ }
 {
-    if is_data(kind) {
-        return fitting::records_refusal(area, held);
+    if !is_data(kind) {
+        return 0;
     }
-    0
+    if !packing::is_allowed(area) {
+        return 14;
+    }
+    if fitting::first_fits(area, held) {
+        return 0;
+    }
+    15
 }
 
 // The answer to a frame that is not refused: the number after its own is expected.
 fn applied(missed: u16, txfn: Txfn, joined: Joined) -> ApplyAnswer
-    ensures { λ r. ⌜ r ≡ joinedAnswer missed txfn joined ⌝ }
+    ensures { λ r. ⌜ r ≡ Applied missed (joined .packets) (joined .listed) (receiverThen txfn (joined .held)) ⌝ }
 {
     let next = txfn.next();
     ApplyAnswer::Applied {
@@ -123,7 +140,7 @@ pub fn apply(
 ) -> ApplyAnswer
     ensures { λ r. ⌜ ApplyOutcome header (now (area .entry)) receiver (now (hold .entry)) (now (list .entry)) r (now (hold .exit)) (now (list .exit)) ⌝ }
 {
-    let buffers = buffers_refusal(1908, area, receiver.held, hold, list);
+    let buffers = buffers_refusal(sizes::AREA_SIZE, area, receiver.held, hold, list);
     if buffers != 0 {
         return ApplyAnswer::Refused(buffers);
     }

@@ -1,11 +1,44 @@
-// The kind of record that tries receive.
+// The kinds of record that try receive and apply.
 ghost use Prim.Native.Nat.{_≤_};
 ghost use lib.ListN.{length};
 use crate::buffers;
 use crate::states;
+use basics::sizes;
+use header::Header;
+use header_fields::fields;
 use lent_bytes::Lent;
 use outcome::Outcome;
+use receiver::Receiver;
 use vectors::numbers;
+
+// The call that is made, with what it has beside bytes, state, hold and list: taps to receive a frame, a header to apply an area.
+enum Call {
+    Receive(u32),
+    Apply(Header),
+}
+
+fn answer_of(
+    call: Call,
+    bytes: &[u8],
+    receiver: Receiver,
+    hold: &mut [u8],
+    list: &mut [u8],
+) -> [u8; 54] {
+    match call {
+        Call::Receive(taps) => {
+            states::receive_answer(
+                receiving::receive(taps, bytes, receiver, hold, list),
+                receiver,
+            )
+        }
+        Call::Apply(header) => {
+            states::apply_answer(
+                receiver::apply(header, bytes, receiver, hold, list),
+                receiver,
+            )
+        }
+    }
+}
 
 // The answer, the digests of hold and list.
 fn outcome_of(answer: &[u8; 54], hold: &[u8], list: &[u8], expected: &[u8]) -> Outcome {
@@ -18,34 +51,26 @@ fn outcome_of(answer: &[u8; 54], hold: &[u8], list: &[u8], expected: &[u8]) -> O
     )
 }
 
-// What receive answers to the taps and the state of a body.
-fn answer_of(body: &[u8], frame: &[u8], hold: &mut [u8], list: &mut [u8]) -> [u8; 54]
-    requires { ⌜ 15 ≤ length (now body) ⌝ }
+// A call with some bytes, of a frame or an area. The rest of its record: the state, the lengths of the bytes, of hold and list, and what is expected.
+fn called(call: Call, bytes: &[u8], rest: &[u8], hold: &mut [u8], list: &mut [u8]) -> Outcome
+    requires { ⌜ 17 ≤ length (now rest) ⌝ }
 {
-    let receiver = states::receiver(&body[4..]);
-    let answer = receiving::receive(numbers::four_at(body, 0), frame, receiver, hold, list);
-    states::answer(answer, receiver)
-}
-
-// A frame arrives, at the hold and the list of the lengths in a body.
-fn arrived(body: &[u8], frame: &[u8], hold: &mut [u8], list: &mut [u8]) -> Outcome
-    requires { ⌜ 91 ≤ length (now body) ⌝ }
-{
-    let hold_length = numbers::two_at(body, 17) as usize;
+    let hold_length = numbers::two_at(rest, 13) as usize;
     if hold.len() < hold_length {
         return Outcome::Malformed;
     }
-    let list_length = numbers::two_at(body, 19) as usize;
+    let list_length = numbers::two_at(rest, 15) as usize;
     if list.len() < list_length {
         return Outcome::Malformed;
     }
     let answer = answer_of(
-        body,
-        frame,
+        call,
+        bytes,
+        states::receiver(rest),
         &mut hold[0..hold_length],
         &mut list[0..list_length],
     );
-    outcome_of(&answer, hold, list, &body[21..91])
+    outcome_of(&answer, hold, list, &rest[17..])
 }
 
 // Taps, the state, the lengths of frame, hold and list; the answer, the digests of hold and list; changes to the frame at hand, which then arrives.
@@ -57,6 +82,29 @@ pub fn received(body: &[u8], at_hand: &Lent, hold: &mut [u8], list: &mut [u8]) -
     if 2100 < length {
         return Outcome::Malformed;
     }
+    let call = Call::Receive(numbers::four_at(body, 0));
     let frame = lent_bytes::changed(at_hand, &body[91..]);
-    arrived(body, &frame[0..length], hold, list)
+    called(call, &frame[0..length], &body[4..91], hold, list)
+}
+
+// The fields of a header, the state, the lengths of area, hold and list; the answer, the digests of hold and list; the area without the zeros at its end.
+pub fn applied(body: &[u8], hold: &mut [u8], list: &mut [u8]) -> Outcome {
+    if body.len() < 111 {
+        return Outcome::Malformed;
+    }
+    let given = fields::first(body);
+    if !fields::are_a_header(&given) {
+        return Outcome::Malformed;
+    }
+    let length = numbers::two_at(body, 35) as usize;
+    if 2100 < length {
+        return Outcome::Malformed;
+    }
+    let front = &body[111..];
+    if sizes::AREA_SIZE < front.len() {
+        return Outcome::Malformed;
+    }
+    let call = Call::Apply(fields::header(&given));
+    let area = lent_bytes::kept_behind(&lent_bytes::zeros_behind(front));
+    called(call, &area[0..length], &body[24..111], hold, list)
 }

@@ -35,15 +35,6 @@ pub fn begun(body: &[u8], hold: &mut [u8], list: &mut [u8]) -> Outcome {
     outcome(hold, list, &body[8..])
 }
 
-// The digest of the list after some changes, and the changes.
-pub fn list_changed(body: &[u8], list: &mut [u8]) -> Outcome {
-    if body.len() < 8 {
-        return Outcome::Malformed;
-    }
-    lent_bytes::change(&body[8..], list);
-    digest::outcome(list, &body[0..8])
-}
-
 // The first bytes of the hold or of the list, as many as are given.
 pub fn front_in_full(body: &[u8], bytes: &[u8]) -> Outcome {
     let length = body.len();

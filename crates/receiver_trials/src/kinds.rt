@@ -1,4 +1,4 @@
-// The kinds of record that try the receiver and its list, 21 to 26, and the function that tries each.
+// The kinds of record that try the receiver and its list, 21 to 27, and the function that tries each.
 use crate::arrivals;
 use crate::buffers;
 use crate::entries;
@@ -9,10 +9,11 @@ pub fn outcome(kind: u8, body: &[u8], at_hand: &Lent, hold: &mut [u8], list: &mu
     match kind {
         21 => buffers::begun(body, hold, list),
         22 => arrivals::received(body, at_hand, hold, list),
-        23 => buffers::list_changed(body, list),
+        23 => lent_bytes::change_outcome(body, list),
         24 => entries::read(body, list),
         25 => buffers::front_in_full(body, list),
         26 => buffers::front_in_full(body, hold),
+        27 => arrivals::applied(body, hold, list),
         _ => Outcome::Malformed,
     }
 }

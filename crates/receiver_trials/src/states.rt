@@ -4,6 +4,7 @@ ghost use Prim.Native.Nat.{_≤_};
 ghost use lib.ListN.{length};
 use counts::Txfn;
 use header_fields::fields;
+use receiver::ApplyAnswer;
 use receiver::Expected;
 use receiver::Receiver;
 use receiving::ReceiveAnswer;
@@ -58,8 +59,13 @@ fn joined(
     answer
 }
 
-// What receive answers: the refusal's number and no fields, or 0 and every field of the header; and the numbers. A refusal leaves the state that was given.
-pub fn answer(found: ReceiveAnswer, given: Receiver) -> [u8; 54] {
+// A refusal's number, and the state that was given, which it leaves.
+fn refused(number: u8, given: Receiver) -> [u8; 54] {
+    joined(&fields::refused(number), 0, 0, 0, given)
+}
+
+// What receive answers: the refusal's number and no fields, or 0 and every field of the header; and the numbers.
+pub fn receive_answer(found: ReceiveAnswer, given: Receiver) -> [u8; 54] {
     match found {
         ReceiveAnswer::Received {
             header,
@@ -68,6 +74,19 @@ pub fn answer(found: ReceiveAnswer, given: Receiver) -> [u8; 54] {
             listed,
             receiver,
         } => joined(&fields::accepted(header), missed, packets, listed, receiver),
-        ReceiveAnswer::Refused(number) => { joined(&fields::refused(number), 0, 0, 0, given) }
+        ReceiveAnswer::Refused(number) => refused(number, given),
+    }
+}
+
+// What apply answers: the same, but it has no header, and no fields.
+pub fn apply_answer(found: ApplyAnswer, given: Receiver) -> [u8; 54] {
+    match found {
+        ApplyAnswer::Applied {
+            missed,
+            packets,
+            listed,
+            receiver,
+        } => joined(&fields::refused(0), missed, packets, listed, receiver),
+        ApplyAnswer::Refused(number) => refused(number, given),
     }
 }

@@ -1,10 +1,13 @@
 // Receiving a frame: it is opened, then applied to the receiver (01, "Receiving").
+use basics::sizes;
 use header::Header;
 use opening::OpenAnswer;
 use receiver::ApplyAnswer;
 use receiver::Receiver;
 ghost use mathlib.Core.Path.{_≡_};
-ghost use Rattle.receiving.specs.Receiving.{argumentRefusal, withHeader, ReceiveOutcome};
+ghost use Rattle.lent.specs.Refusals.{firstOf};
+ghost use Rattle.receiving.specs.Receiving.{argumentTable, ReceiveOutcome};
+ghost use Rattle.receiving.specs.Steps.{withHeader};
 
 pub enum ReceiveAnswer {
     Received {
@@ -19,12 +22,12 @@ pub enum ReceiveAnswer {
 
 // 1, 2 and 3, whatever the frame holds; 0 for none.
 fn argument_refusal(taps: u32, frame: &[u8], held: usize, hold: &[u8], list: &[u8]) -> u8
-    ensures { λ r. ⌜ r ≡ argumentRefusal taps (now (frame .entry)) held (now (hold .entry)) (now (list .entry)) ⌝ }
+    ensures { λ r. ⌜ r ≡ firstOf (argumentTable taps (now (frame .entry)) held (now (hold .entry)) (now (list .entry))) ⌝ }
 {
     if !scrambler::are_taps(taps) {
         return 1;
     }
-    receiver::buffers_refusal(2081, frame, held, hold, list)
+    receiver::buffers_refusal(sizes::FRAME_SIZE, frame, held, hold, list)
 }
 
 fn with_header(header: Header, answer: ApplyAnswer) -> ReceiveAnswer
@@ -61,7 +64,7 @@ pub fn receive(
     if argument != 0 {
         return ReceiveAnswer::Refused(argument);
     }
-    let mut area = [0; 1908];
+    let mut area = [0; sizes::AREA_SIZE];
     let opened = opening::open(taps, frame, &mut area);
     match opened {
         OpenAnswer::Refused(number) => ReceiveAnswer::Refused(number),

@@ -1,13 +1,15 @@
--- The mark of a record (01, "Packing, the bench's own"): bit 15 "first of its packet", bit 14 "last of its packet", bits 13-11 zero, bits 10-0 the length. `isMark` says where it may stand.
+-- What the code does: the mark of a record as a reader takes it apart (01, "Packing, the bench's own"), and where it may stand. `area-exactly` of demand 2 ties
+-- it to the rules, `Allowed` of crate packing, so whoever believes those need not believe anything here.
 use mathlib.Core.Bool.{Bool, _&&_, _||_}
 use Prim.Native.Nat.{ℕ, _+_, _/_, _%_}
 use lib.Dec.{leb, eqb}
+use Rattle.basics.specs.Sizes.{firstBit, lastBit}
 
 abbrev pub isFirst : ℕ → Bool
-isFirst mark = eqb (mark / 32768 % 2) 1
+isFirst mark = eqb (mark / firstBit % 2) 1
 
 abbrev pub isLast : ℕ → Bool
-isLast mark = eqb (mark / 16384 % 2) 1
+isLast mark = eqb (mark / lastBit % 2) 1
 
 abbrev pub lengthIn : ℕ → ℕ
 lengthIn mark = mark % 2048

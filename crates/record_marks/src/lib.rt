@@ -1,4 +1,5 @@
 // The mark of a record: whether it may stand where it stands (01, "Packing, the bench's own").
+use basics::sizes;
 ghost use mathlib.Core.Path.{_≡_};
 ghost use Rattle.record_marks.specs.Mark.{mayBegin, mayEnd, isMark};
 
@@ -26,7 +27,7 @@ pub fn is_mark(at: usize, room: usize, mark: usize) -> bool
 fn may_begin(at: usize, mark: usize) -> bool
     ensures { λ r. ⌜ r ≡ mayBegin at mark ⌝ }
 {
-    if mark / 32768 % 2 == 1 {
+    if mark / sizes::FIRST_BIT % 2 == 1 {
         return true;
     }
     at == 0
@@ -35,7 +36,7 @@ fn may_begin(at: usize, mark: usize) -> bool
 fn may_end(room: usize, mark: usize) -> bool
     ensures { λ r. ⌜ r ≡ mayEnd room mark ⌝ }
 {
-    if mark / 16384 % 2 == 1 {
+    if mark / sizes::LAST_BIT % 2 == 1 {
         return true;
     }
     2 + mark % 2048 == room

@@ -56,7 +56,7 @@ value-scale x c a (u ∷ p) hx hc ha h =
 -- long division keeps the value at a root of the divisor
 value-remainder : (x : ℕ) (g : List ℕ) → x < 256 → Bytes g → value x 1 g ≡ 0 → (n : ℕ) (xs : List ℕ) → Bytes xs → n + length g ≤ length xs
     → value x 0 (remainder times g n xs) ≡ value x 0 xs
-unfolding remainder value
+unfolding remainder plus scale value
 value-remainder x g hx hg root zero xs h l = refl
 value-remainder x g hx hg root (suc n) [] h l = absurd (omega arith)
 value-remainder x g hx hg root (suc n) (c ∷ xs) h l =

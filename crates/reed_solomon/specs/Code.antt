@@ -15,12 +15,10 @@ factors (suc n) i = product times (1 ∷ power (11 * i) ∷ []) (factors n (suc 
 
 -- the generator: its 16 roots are 2 to the power 11 j, j from 120 to 135
 unfoldable pub generator : List ℕ
-unfolding factors
 generator = factors 16 120
 
 -- the 16 parity bytes of data of any length: the remainder of the data times x^16 by the generator, whose leading coefficient is 1
 unfoldable pub parity : List ℕ → List ℕ
-unfolding generator
 parity message = check times (tail generator) message
 
 -- whether a word is a codeword: 255 bytes that the generator divides

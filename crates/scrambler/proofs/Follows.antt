@@ -1,5 +1,5 @@
 -- The numbers of the key follow the recurrence of its bits: numbers of n bytes each, as far apart as any power of two, from whichever byte on.
-use mathlib.Core.Path.{_≡_, refl, sym, ap, ap₂, _∙_}
+use mathlib.Core.Path.{_≡_, refl, sym, ap, ap₂, _∙_, subst}
 use Prim.Native.Nat.{ℕ, zero, suc, _+_, _*_, _/_, _%_, _^_, _<_}
 use native.Mathlib.Nat.{mod-lt, zero-add, suc-add, mul-zero, mul-one, mul-assoc, mul-comm, mul-add, pow-suc}
 use native.Mathlib.Numerals.{add-one}
@@ -7,11 +7,13 @@ use native.Mathlib.Omega.{arith}
 use lib.Dec.{lit<}
 use lib.Bits.{bitXor}
 use Rattle.basics.proofs.Xor.{bit-cases, bit-mul-lt}
-use Rattle.scrambler.specs.Scrambler.{digit, sumBelow, after, firstStages, bit, key}
+use Rattle.basics.specs.Numbers.{digit}
+use Rattle.scrambler.specs.Scrambler.{sumBelow, after, firstStages, bit, keyByte}
+use Rattle.scrambler.specs.Keys.{key, keyNumber}
 use Rattle.scrambler.proofs.Stages.{after-add}
+use Rattle.scrambler.proofs.KeyBytes.{key-byte}
 use Rattle.scrambler.proofs.Recurrence.{recurrence}
 use Rattle.scrambler.proofs.Steps.{key-lt}
-use Rattle.scrambler.specs.Keys.{keyByte, keyNumber}
 use Rattle.scrambler.proofs.Square.{total, total-same, total-zero, Follows, Bits, squared, every-second, together}
 
 -- ---- the recurrence, as a sum modulo 2 of bits
@@ -79,14 +81,12 @@ module _ (taps : ℕ) where
       (λ k. key-lt taps n (after taps (suc r + 2 ^ m * k) firstStages)) (strided (bit taps) bits-follow m r) (key-follows n m (suc r)))
 
   bytes-follow : Follows 25 taken (keyByte taps)
-  unfolding keyByte
   bytes-follow =
       follows-same (λ k. key taps 8 (after taps (0 + 2 ^ 3 * k) firstStages)) (keyByte taps)
-      (λ k. ap (λ (j : ℕ). key taps 8 (after taps j firstStages)) (zero-add (8 * k))) (key-follows 8 3 0)
+      (λ k. ap (λ (j : ℕ). key taps 8 (after taps j firstStages)) (zero-add (8 * k)) ∙ sym (key-byte taps k)) (key-follows 8 3 0)
 
   pub key-byte-lt : (i : ℕ) → keyByte taps i < 256
-  unfolding keyByte
-  key-byte-lt i = key-lt taps 8 (after taps (8 * i) firstStages)
+  key-byte-lt i = subst (λ (x : ℕ). x < 256) (sym (key-byte taps i)) (key-lt taps 8 (after taps (8 * i) firstStages))
 
   -- n bytes from byte r on
   number-follows : (n m r : ℕ) → Follows 25 taken (λ k. keyNumber taps n (r + 2 ^ m * k))

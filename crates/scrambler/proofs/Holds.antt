@@ -8,7 +8,8 @@ use lib.Arith.{digits-lt}
 use lib.ListN.{length, getD, set, take, length-set}
 use lib.Seq.{getD-set-other, getD-take}
 use Rattle.basics.proofs.Fill.{stored-more}
-use Rattle.scrambler.specs.Keys.{keyByte, keyNumber, placesFrom, AllBelow, sumAt, FollowsAt, FollowsByTwo, Holds, Extends, ExtendsByTwo, pairOf, Paired, Moved}
+use Rattle.scrambler.specs.Scrambler.{keyByte}
+use Rattle.scrambler.specs.Keys.{keyNumber, placesFrom, AllBelow, sumAt, FollowsAt, FollowsByTwo, Holds, Extends, ExtendsByTwo, pairOf, Paired, Moved}
 use Rattle.scrambler.proofs.Places.{places-below, sum-same, follows-at, follows-by-two}
 use Rattle.scrambler.proofs.Follows.{level, level-follows, wordsFrom, words-squared, level-join, key-number-lt}
 

@@ -1,4 +1,5 @@
 pub mod Stages
+pub mod KeyBytes
 pub mod Recurrence
 pub mod Laws
 pub mod Steps

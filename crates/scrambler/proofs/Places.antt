@@ -10,9 +10,9 @@ use lib.Bits.{bitXor, xor-zero-r}
 use lib.ListN.{length, getD, take, drop, set, length-set, drop-of-length-le}
 use lib.Seq.{drop-cons, take-suc-set, take-set-le}
 use Rattle.basics.proofs.Xor.{bit-cases, xor-assoc}
-use Rattle.scrambler.specs.Scrambler.{digit}
-use Rattle.scrambler.proofs.Stages.{digit-zero, digit-suc}
+use Rattle.basics.specs.Numbers.{digit}
 use Rattle.scrambler.specs.Keys.{withPlace, placesFrom, AllBelow, sumAt, FollowsAt, FollowsByTwo}
+use Rattle.scrambler.proofs.Stages.{digit-zero, digit-suc}
 use Rattle.scrambler.proofs.Square.{total, total-same, Follows}
 
 -- ---- places are below 25

@@ -1,15 +1,21 @@
--- The bits are those of the paper's recurrence, and the first 25 are the same for all taps.
+-- The bits are those of the paper's recurrence, and the first 25 are the same for all taps; byte k of what is scrambled has bits 8 k to 8 k + 7 added.
 use mathlib.Core.Path.{_≡_, refl, sym, ap, ap₂, _∙_}
 use mathlib.Core.Bool.{Bool, cond}
 use mathlib.Core.List.{List, [], _∷_}
 use Prim.Native.Nat.{ℕ, zero, suc, _+_, _*_, _%_, _^_, _≤_, _<_}
+use native.Mathlib.Nat.{not-suc-le-zero, le-of-suc-le-suc, add-zero, zero-add, add-suc, suc-add}
 use native.Mathlib.Numerals.{add-one}
 use native.Mathlib.Omega.{arith}
 use lib.Dec.{eqb, ltb, eqb→eq, lit<, lit≤}
+use lib.Bits.{bitXor}
+use lib.ListN.{length, getD}
 use Rattle.basics.specs.Lists.{zeros}
 use Rattle.basics.proofs.Tests.{below}
-use Rattle.scrambler.specs.Scrambler.{digit, sumBelow, newBit, next, after, firstStages, bit, key, scrambledFrom, scrambled}
+use Rattle.basics.specs.Numbers.{digit}
+use Rattle.scrambler.specs.Scrambler.{sumBelow, newBit, next, after, firstStages, bit, keyByte, withKey, scrambled}
+use Rattle.scrambler.specs.Keys.{key, scrambledFrom}
 use Rattle.scrambler.proofs.Stages.{sum-ext, next-lt, after-lt, after-add, next-top, stage}
+use Rattle.scrambler.proofs.KeyBytes.{scrambled-stages}
 
 -- the bit that comes out after 25 steps
 after-25 : (taps stages : ℕ) → stages < 2 ^ 25 → digit 0 (after taps 25 stages) ≡ newBit taps stages
@@ -35,6 +41,21 @@ first-bits taps k h =
     let test : ℕ → Bool = λ i. eqb (digit i firstStages) (cond (ltb i 3) 1 0) in
     stage taps k firstStages h (lit< tt) ∙ eqb→eq (digit k firstStages) (cond (ltb k 3) 1 0) (below 25 test tt k h)
 
+-- ---- byte by byte
+
+with-key-at : (taps k : ℕ) (bytes : List ℕ) (i : ℕ) → i < length bytes → getD (withKey taps k bytes) i 0 ≡ bitXor (getD bytes i 0) (keyByte taps (k + i))
+unfolding withKey
+with-key-at taps k [] i h = absurd (not-suc-le-zero h)
+with-key-at taps k (b ∷ bytes) zero h = ap (λ (j : ℕ). bitXor b (keyByte taps j)) (sym (add-zero k))
+with-key-at taps k (b ∷ bytes) (suc i) h =
+    with-key-at taps (suc k) bytes i (le-of-suc-le-suc h)
+    ∙ ap (λ (j : ℕ). bitXor (getD bytes i 0) (keyByte taps j)) (suc-add k i ∙ sym (add-suc k i))
+
+-- byte k is that of the message and that of the key, added
+pub scrambled-byte : (taps : ℕ) (bytes : List ℕ) (k : ℕ) → k < length bytes → getD (scrambled taps bytes) k 0 ≡ bitXor (getD bytes k 0) (keyByte taps k)
+unfolding scrambled
+scrambled-byte taps bytes k h = with-key-at taps 0 bytes k h ∙ ap (λ (j : ℕ). bitXor (getD bytes k 0) (keyByte taps j)) (zero-add k)
+
 -- ---- the first bytes
 
 -- n digits from digit i on, the first of them the highest
@@ -51,8 +72,9 @@ key-digits taps (suc n) i stages h hs =
 
 -- bytes 0 to 2 are E0 00 00 for all taps
 pub first-bytes : (taps : ℕ) → scrambled taps (zeros 3) ≡ 0xE0 ∷ 0 ∷ 0 ∷ []
-unfolding scrambled scrambledFrom after
+unfolding scrambledFrom after
 first-bytes taps =
-    ap₂ (λ (x : ℕ) (l : List ℕ). x ∷ l) (key-digits taps 8 0 firstStages (lit≤ tt) (lit< tt))
+    scrambled-stages taps (zeros 3)
+    ∙ ap₂ (λ (x : ℕ) (l : List ℕ). x ∷ l) (key-digits taps 8 0 firstStages (lit≤ tt) (lit< tt))
     (ap₂ (λ (x : ℕ) (l : List ℕ). x ∷ l) (key-digits taps 8 8 firstStages (lit≤ tt) (lit< tt))
     (ap (λ (x : ℕ). x ∷ []) (ap (key taps 8) (sym (after-add taps 8 8 firstStages)) ∙ key-digits taps 8 16 firstStages (lit≤ tt) (lit< tt))))

@@ -7,7 +7,8 @@ use native.Mathlib.Omega.{arith}
 use lib.Dec.{lit<}
 use lib.Pow.{shr-shr, shl-shr, shr-lt, pow-add, high}
 use lib.Bits.{bitXor, xor-shr, xor-mod, xor-shifted, shifted-even}
-use Rattle.scrambler.specs.Scrambler.{digit, sumBelow, newBit, next, after}
+use Rattle.basics.specs.Numbers.{digit}
+use Rattle.scrambler.specs.Scrambler.{sumBelow, newBit, next, after}
 
 -- ---- digits and sums
 

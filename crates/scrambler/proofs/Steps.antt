@@ -13,7 +13,9 @@ use lib.Count.{ones, ones-step}
 use lib.Seq.{drop-cons, take-suc-set, drop-set-lt, take-all}
 use lib.ListN.{length, getD, take, drop, set, drop-of-length-le}
 use Rattle.basics.proofs.Xor.{bit-cases}
-use Rattle.scrambler.specs.Scrambler.{digit, sumBelow, newBit, next, after, key, scrambledFrom}
+use Rattle.basics.specs.Numbers.{digit}
+use Rattle.scrambler.specs.Scrambler.{sumBelow, newBit, next, after}
+use Rattle.scrambler.specs.Keys.{key, scrambledFrom}
 use Rattle.scrambler.proofs.Stages.{digit-zero, digit-suc, sum-ext}
 
 -- ---- the new bit: the parity of the stages under the taps

@@ -16,9 +16,10 @@ use Rattle.lent.specs.Written.{written}
 use Rattle.lent.specs.Numbers.{bytesOf}
 use Rattle.lent.proofs.Written.{written-whole}
 use Rattle.lent.proofs.Bytes.{bytes-at, bytes-length}
-use Rattle.scrambler.specs.Scrambler.{after, firstStages, scrambledFrom, scrambled}
-use Rattle.scrambler.specs.Keys.{keyByte, keyNumber, placesFrom, Holds, ExtendsByTwo, Moved, Added}
+use Rattle.scrambler.specs.Scrambler.{after, firstStages, scrambled, keyByte}
+use Rattle.scrambler.specs.Keys.{scrambledFrom, keyNumber, placesFrom, Holds, ExtendsByTwo, Moved, Added}
 use Rattle.scrambler.proofs.Stages.{after-add}
+use Rattle.scrambler.proofs.KeyBytes.{key-byte, scrambled-stages}
 use Rattle.scrambler.proofs.Steps.{bytes-turn, bytes-end}
 use Rattle.scrambler.proofs.Laws.{scrambled-from-length, scrambled-append}
 use Rattle.scrambler.proofs.Follows.{key-byte-lt, wordsFrom}
@@ -74,7 +75,6 @@ adding-start {words} {bytes} {key} long few e =
 
 module _ {words before key bytes : List ℕ} {i : ℕ} (s : Adding words before key i bytes) where
   pub adding-turn : i < length bytes → Adding words before key (i + 1) (set bytes i (bitXor (getD bytes i 0) (getD key i 0)))
-  unfolding keyByte
   adding-turn h =
       let x = bitXor (getD bytes i 0) (getD key i 0) in
       record {
@@ -85,7 +85,7 @@ module _ {words before key bytes : List ℕ} {i : ℕ} (s : Adding words before 
         so-far = λ taps at there.
             let e : at + (i + 1) ≡ at + i + 1 = omega arith in
             bytes-turn taps (stagesAt taps (at + i)) bytes i x (stagesAt taps (at + (i + 1))) h
-            (ap (bitXor (getD bytes i 0)) (ap (λ (l : List ℕ). getD l i 0) (s .key-is) ∙ words-byte taps at words there i (omega (arith, s .same, s .few))))
+            (ap (bitXor (getD bytes i 0)) (ap (λ (l : List ℕ). getD l i 0) (s .key-is) ∙ words-byte taps at words there i (omega (arith, s .same, s .few)) ∙ key-byte taps (at + i)))
             (ap (stagesAt taps) e ∙ stages-later taps (at + i) 1)
             ∙ s .so-far taps at there;
       }
@@ -136,14 +136,14 @@ pub record Scrambling (taps : ℕ) (places before : List ℕ) (at : ℕ) (bytes 
 
 pub scrambling-start : {taps : ℕ} {places bytes words : List ℕ} → places ≡ placesFrom 25 0 taps → length words ≡ 100
     → Holds (λ k. keyNumber taps 8 (8 * k)) 50 words → Scrambling taps places bytes 0 bytes words
-unfolding scrambled after
-scrambling-start {taps} places-are long h = record {
+unfolding after
+scrambling-start {taps} {places} {bytes} places-are long h = record {
   places-are = places-are;
   inside = omega arith;
   same = refl;
   long = long;
   key = holds-same (λ k. ap (keyNumber taps 8) (sym (zero-add (8 * k)))) h;
-  so-far = refl;
+  so-far = sym (scrambled-stages taps bytes);
 }
 
 module _ {taps at : ℕ} {places before bytes words : List ℕ} (s : Scrambling taps places before at bytes words) where

@@ -1,15 +1,22 @@
--- What the code does: the scrambler's bits in numbers of 1, 2, 4 and 8 bytes, each kind by one recurrence. The contracts of the private functions cite these
--- words; `proofs/` shows that they come to `scrambled`, so whoever reads `scramble` need not believe anything here.
+-- What the code does: the scrambler's bits as they leave the stages, and in numbers of 1, 2, 4 and 8 bytes, each kind by one recurrence. The contracts of the
+-- private functions cite these words; `proofs/` shows that they come to `scrambled`, so whoever reads `scramble` need not believe anything here.
 use mathlib.Core.Path.{_≡_}
 use mathlib.Core.List.{List, [], _∷_}
 use Prim.Native.Nat.{ℕ, zero, suc, _+_, _*_, _/_, _%_, _^_, _<_}
 use lib.Bits.{bitXor}
 use lib.ListN.{length, getD}
-use Rattle.scrambler.specs.Scrambler.{after, firstStages, key, scrambledFrom}
+use Rattle.basics.specs.Numbers.{digit}
+use Rattle.scrambler.specs.Scrambler.{next, after, firstStages, keyByte}
 
--- byte i of the key
-unfoldable pub keyByte : ℕ → ℕ → ℕ
-keyByte taps i = key taps 8 (after taps (8 * i) firstStages)
+-- the next n bits that leave the stages, as a number, the first of them the highest
+unfoldable pub key : ℕ → ℕ → ℕ → ℕ
+key taps zero stages = 0
+key taps (suc n) stages = digit 0 stages * 2 ^ n + key taps n (next taps stages)
+
+-- the bytes with the bits from these stages on added
+unfoldable pub scrambledFrom : ℕ → ℕ → List ℕ → List ℕ
+scrambledFrom taps stages [] = []
+scrambledFrom taps stages (byte ∷ bytes) = bitXor byte (key taps 8 stages) ∷ scrambledFrom taps (after taps 8 stages) bytes
 
 -- n bytes of the key from byte i on, as a number, the first the lowest
 unfoldable pub keyNumber : ℕ → ℕ → ℕ → ℕ

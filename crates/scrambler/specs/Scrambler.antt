@@ -1,18 +1,16 @@
 -- The scrambler (2.6.3.6.4 to 2.6.3.6.7; 01, "The frame on the wire"): bits s(0), s(1), .. by a recurrence over the last 25, added modulo 2 to the bytes, the
--- top bit of each byte first. The taps of the recurrence are a setting, a number whose digit i is tap i.
+-- top bit of each byte first. The taps of the recurrence are a setting, a number whose binary digit i is tap i.
 use mathlib.Core.Bool.{Bool, _&&_}
 use mathlib.Core.List.{List, [], _∷_}
 use Prim.Native.Nat.{ℕ, zero, suc, _+_, _*_, _/_, _%_, _^_}
-use lib.Dec.{eqb, ltb}
+use lib.Dec.{eqb}
 use lib.Bits.{bitXor}
-
--- digit i of a number in base 2, from the lowest, which is digit 0
-abbrev pub digit : ℕ → ℕ → ℕ
-digit i x = x / 2 ^ i % 2
+use Rattle.basics.specs.Lists.{entries}
+use Rattle.basics.specs.Numbers.{digit, number, fitsBits}
 
 -- the setting holds 25 taps, and tap 0 is set (01, refusal 1)
 unfoldable pub tapsAllowed : ℕ → Bool
-tapsAllowed taps = ltb taps (2 ^ 25) && eqb (digit 0 taps) 1
+tapsAllowed taps = fitsBits 25 taps && eqb (digit 0 taps) 1
 
 -- f 0 + f 1 + .. + f (n - 1)
 unfoldable pub sumBelow : ℕ → (ℕ → ℕ) → ℕ
@@ -41,16 +39,15 @@ firstStages = 7
 unfoldable pub bit : ℕ → ℕ → ℕ
 bit taps k = digit 0 (after taps k firstStages)
 
--- the next n bits as a number, the first of them the highest
-unfoldable pub key : ℕ → ℕ → ℕ → ℕ
-key taps zero stages = 0
-key taps (suc n) stages = digit 0 stages * 2 ^ n + key taps n (next taps stages)
+-- byte k of the key: the bits s(8 k) to s(8 k + 7), the first at the top
+unfoldable pub keyByte : ℕ → ℕ → ℕ
+keyByte taps k = number (entries (bit taps) (8 * k) 8)
 
--- the bytes with the bits from these stages on added
-unfoldable pub scrambledFrom : ℕ → ℕ → List ℕ → List ℕ
-scrambledFrom taps stages [] = []
-scrambledFrom taps stages (byte ∷ bytes) = bitXor byte (key taps 8 stages) ∷ scrambledFrom taps (after taps 8 stages) bytes
+-- the bytes with those of the key from byte k on added
+unfoldable pub withKey : ℕ → ℕ → List ℕ → List ℕ
+withKey taps k [] = []
+withKey taps k (byte ∷ bytes) = bitXor byte (keyByte taps k) ∷ withKey taps (suc k) bytes
 
 -- the bytes with the bits from s(0) on added: each frame begins anew
 unfoldable pub scrambled : ℕ → List ℕ → List ℕ
-scrambled taps bytes = scrambledFrom taps firstStages bytes
+scrambled taps bytes = withKey taps 0 bytes

@@ -1,7 +1,8 @@
 // The scrambler bit by bit: its 25 stages, and the bits that leave them.
 ghost use mathlib.Core.Path.{_≡_};
 ghost use Prim.Native.Nat.{_<_, _^_};
-ghost use Rattle.scrambler.specs.Scrambler.{next, after, key};
+ghost use Rattle.scrambler.specs.Scrambler.{next, after};
+ghost use Rattle.scrambler.specs.Keys.{key};
 
 // The stages at the start of a frame (Table 2-17): s(0) to s(2) are 1.
 pub const FIRST_STAGES: u32 = 7;

@@ -5,7 +5,8 @@ use crate::sums;
 ghost use mathlib.Core.Path.{_≡_};
 ghost use Prim.Native.Nat.{ℕ, _*_, _^_, _≤_, _<_};
 ghost use lib.ListN.{length, getD};
-ghost use Rattle.scrambler.specs.Keys.{keyByte, keyNumber, placesFrom, AllBelow, Holds, Extends, ExtendsByTwo, Paired, Moved};
+ghost use Rattle.scrambler.specs.Scrambler.{keyByte};
+ghost use Rattle.scrambler.specs.Keys.{keyNumber, placesFrom, AllBelow, Holds, Extends, ExtendsByTwo, Paired, Moved};
 
 // The first 25 bytes of the key, made bit by bit.
 fn first_bytes(taps: u32) -> [u64; 100]

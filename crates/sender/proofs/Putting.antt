@@ -1,22 +1,24 @@
 -- What a put that is not refused may lean on; any two outcomes of `put` are equal; and what putting does to the queue that the bytes stand for (demand 3).
 use mathlib.Core.Path.{_≡_, refl, sym, ap, _∙_}
-use mathlib.Core.Bool.{Bool, true, false, cond, _&&_}
+use mathlib.Core.Bool.{Bool, true, false, false≢true, cond, _||_}
 use mathlib.Core.Logic.{_⊎_, inl, inr, ⊎-elim}
 use mathlib.Core.List.{List, [], _++_}
 use Prim.Native.Nat.{ℕ, _+_, _%_, _≤_, _<_}
 use native.Mathlib.Omega.{arith}
-use lib.Dec.{eqb, leb}
+use lib.Dec.{eqb}
 use lib.ListN.{length, getD, take}
-use borrow.Author.Tests.{eqb-true, leb-true}
+use borrow.Author.Tests.{eqb-true, eqb-false, ltb-false}
 use Rattle.basics.specs.Lists.{Bytes}
+use Rattle.basics.specs.Numbers.{above}
 use Rattle.basics.proofs.Lists.{bytes-take}
-use Rattle.basics.proofs.Tests.{left-true, right-true}
-use Rattle.lent.specs.Outcome.{by}
+use Rattle.lent.specs.Refusals.{_when_, by}
 use Rattle.lent.specs.Written.{written}
-use Rattle.lent.proofs.Outcome.{gate, accepted, numbered}
+use Rattle.lent.proofs.Refusals.{unless-passed, row-passed, accepted}
 use Rattle.lent.proofs.Written.{take-written}
-use Rattle.link.specs.Link.{IsPacket, Queue, withPacket}
-use Rattle.link.specs.Store.{marked, parse}
+use Rattle.link.specs.Link.{IsPacket, Queue}
+use Rattle.link.proofs.Machine.{withPacket}
+use Rattle.link.specs.Store.{marked}
+use Rattle.link.specs.Parsing.{parse}
 use Rattle.link.proofs.RoundTrip.{parse-put}
 use Rattle.ring.specs.Ring.{roundFrom, ringWritten}
 use Rattle.ring.proofs.Laws.{round-length, round-bytes, ring-append, ring-read, ring-bytes}
@@ -24,9 +26,8 @@ use Rattle.ring.proofs.Places.{round-keeps}
 use Rattle.marks.specs.Queue.{usedIn, isRingWhole}
 use Rattle.marks.proofs.Used.{ring-passed}
 use Rattle.sender.specs.declared.Sender.{Sender}
-use Rattle.sender.specs.declared.PutAnswer.{PutAnswer}
 use Rattle.sender.specs.declared.PutAnswer.the-variants.{Taken, Refused}
-use Rattle.sender.specs.Put.{putRefusal, putSender, putBytes, putNumber, putAnswer, PutOutcome}
+use Rattle.sender.specs.Put.{putRefusal, putSender, putBytes, PutOutcome}
 use Rattle.sender.proofs.Stands.{Stands}
 
 pub record PutPassed (queue : List ℕ) (start used : ℕ) (packet : List ℕ) : Type 0 where
@@ -36,19 +37,25 @@ pub record PutPassed (queue : List ℕ) (start used : ℕ) (packet : List ℕ) :
   pub most : length packet ≤ 9000
   pub room : used + 2 + length packet ≤ 32768
 
+neither-true : (a b : Bool) → (a || b) ≡ false → (a ≡ false) × (b ≡ false)
+neither-true true b e = absurd (false≢true (sym e))
+neither-true false b e = (refl, e)
+
 pub put-passed : (queue : List ℕ) (start used : ℕ) (packet : List ℕ) → putRefusal queue start used packet ≡ 0 → PutPassed queue start used packet
 unfolding putRefusal
 put-passed queue start used packet e =
-    let size = gate (eqb (length queue) 32768) _ 2 (omega arith) e in
-    let whole = gate (isRingWhole queue start used) _ 3 (omega arith) (size .1) in
-    let fits = gate (leb 1 (length packet) && leb (length packet) 9000) _ 4 (omega arith) (whole .1) in
-    let room = gate (leb (used + 2 + length packet) 32768) 0 5 (omega arith) (fits .1) in
+    let n = length packet in
+    let size = unless-passed 2 (eqb (length queue) 32768) _ (omega arith) e in
+    let whole = unless-passed 3 (isRingWhole queue start used) _ (omega arith) (size .1) in
+    let fits = row-passed (4 when (eqb n 0 || above n 9000)) _ (omega arith) (whole .1) in
+    let room = row-passed (5 when above (used + 2 + n) 32768) [] (omega arith) (fits .1) in
+    let neither = neither-true (eqb n 0) (above n 9000) (fits .0) in
     record {
       long = eqb-true (length queue) 32768 (size .0);
       within = ring-passed queue start used (whole .0) .within;
-      least = leb-true 1 (length packet) (left-true (leb 1 (length packet)) (leb (length packet) 9000) (fits .0));
-      most = leb-true (length packet) 9000 (right-true (leb 1 (length packet)) (leb (length packet) 9000) (fits .0));
-      room = leb-true (used + 2 + length packet) 32768 (room .0);
+      least = omega (arith, eqb-false n 0 (neither .0));
+      most = ltb-false 9000 n (neither .1);
+      room = ltb-false 32768 (used + 2 + n) (room .0);
     }
 
 -- the mark is written, then the packet
@@ -56,15 +63,6 @@ pub put-written : {queue : List ℕ} {start used : ℕ} {packet : List ℕ} → 
     → ringWritten (ringWritten queue start used (marked (length packet) [])) start (used + 2) packet ≡ putBytes queue start used packet
 put-written {queue} {start} {used} {packet} p =
     ring-append queue start used (marked (length packet) []) packet (omega (arith, p .long, p .within)) (omega (arith, p .long, p .room))
-
--- the answer's number is the one that it was made for
-pub put-numbers : (number : ℕ) (sender : Sender) → putNumber (putAnswer number sender) ≡ number
-put-numbers number sender = numbered putNumber (Taken sender) (λ n. Refused n) refl (λ n. refl) number
-
--- Any two outcomes that the contract of `put` admits are equal.
-pub put-one : (queue : List ℕ) (sender : Sender) (packet : List ℕ) (r₁ r₂ : PutAnswer) (after₁ after₂ : List ℕ)
-    → PutOutcome queue sender packet r₁ after₁ → PutOutcome queue sender packet r₂ after₂ → (r₁ ≡ r₂) × (after₁ ≡ after₂)
-put-one queue sender packet r₁ r₂ after₁ after₂ x y = (x .answer ∙ sym (y .answer), x .bytes ∙ sym (y .bytes))
 
 -- ---- demand 3
 

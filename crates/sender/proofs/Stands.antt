@@ -5,7 +5,7 @@ use mathlib.Core.List.{List}
 use Prim.Native.Nat.{ℕ, _%_}
 use Rattle.basics.specs.Lists.{Bytes}
 use Rattle.link.specs.Link.{Queue, empty}
-use Rattle.link.specs.Store.{parse, packetsIn}
+use Rattle.link.specs.Parsing.{parse, packetsIn}
 use Rattle.marks.specs.Queue.{usedIn}
 use Rattle.sender.specs.declared.Sender.{Sender}
 use Rattle.sender.specs.Put.{freshSender}

@@ -1,4 +1,5 @@
 // The sender: packets are put into a lent ring of 32,768 bytes (01, "Queue"; 02, M-105).
+use basics::sizes;
 use counts::Txfn;
 ghost use mathlib.Core.Path.{_≡_};
 ghost use Rattle.sender.specs.Put.{freshSender, putRefusal, PutOutcome};
@@ -31,20 +32,20 @@ pub enum PutAnswer {
 fn put_refusal(queue: &[u8], start: usize, used: usize, packet: &[u8]) -> u8
     ensures { λ r. ⌜ r ≡ putRefusal (now (queue .entry)) start used (now (packet .entry)) ⌝ }
 {
-    if queue.len() != 32768 {
+    if queue.len() != sizes::QUEUE_SIZE {
         return 2;
     }
     if !marks::is_ring_whole(queue, start, used) {
         return 3;
     }
     let length = packet.len();
-    if length < 1 {
+    if length == 0 {
         return 4;
     }
-    if 9000 < length {
+    if sizes::MOST_PACKET < length {
         return 4;
     }
-    if 32768 - used < 2 + length {
+    if sizes::QUEUE_SIZE - used < 2 + length {
         return 5;
     }
     0

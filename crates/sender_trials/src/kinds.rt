@@ -7,7 +7,7 @@ use outcome::Outcome;
 pub fn outcome(kind: u8, body: &[u8], queue: &mut [u8], at_hand: &mut Lent) -> Outcome {
     match kind {
         16 => queues::begun(body, queue),
-        17 => queues::changed(body, queue),
+        17 => lent_bytes::change_outcome(body, queue),
         18 => calls::put(body, queue),
         19 => calls::next_frame(body, queue, at_hand),
         20 => queues::in_full(body, queue),

@@ -18,15 +18,6 @@ pub fn begun(body: &[u8], queue: &mut [u8]) -> Outcome {
     digest::outcome(queue, &body[4..])
 }
 
-// The digest of the queue after some changes, and the changes.
-pub fn changed(body: &[u8], queue: &mut [u8]) -> Outcome {
-    if body.len() < 8 {
-        return Outcome::Malformed;
-    }
-    lent_bytes::change(&body[8..], queue);
-    digest::outcome(queue, &body[0..8])
-}
-
 // A seed and bytes: every byte of the queue, and of those behind it. They are the bytes given, and then those from the seed.
 pub fn in_full(body: &[u8], queue: &[u8]) -> Outcome {
     if body.len() < 4 {

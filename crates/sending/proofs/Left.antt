@@ -1,19 +1,19 @@
 -- What a frame leaves of the queue's bytes: they begin further on, and where a packet is begun its mark stands before them, within what was freed.
 use mathlib.Core.Path.{_≡_, refl, sym, ap, _∙_}
-use mathlib.Core.Bool.{Bool, true, false, cond}
+use mathlib.Core.Bool.{Bool, true, false}
 use mathlib.Core.Option.{Option, none, some}
 use mathlib.Core.List.{List, [], _∷_, _++_}
-use Prim.Native.Nat.{ℕ, zero, suc, _+_, _-_, _≤_, _<_}
+use Prim.Native.Nat.{ℕ, _+_, _-_, _≤_}
 use native.Mathlib.Omega.{arith}
-use lib.Dec.{leb}
+use native.Mathlib.Decide.{decLe}
 use lib.ListN.{length, drop, length-append, length-drop}
 use lib.Seq.{drop-append-le, drop-append-add}
-use borrow.Author.Tests.{leb-false}
 use Rattle.basics.specs.Lists.{Bytes}
 use Rattle.basics.proofs.Lists.{bytes-append, bytes-drop}
-use Rattle.link.specs.Link.{Packet, Queue, IsRest, IsQueue, pieceThen, cutPacket, cutWaiting, cutRest, cutFrom, cut}
+use Rattle.link.specs.Link.{Packet, Queue, IsRest, IsQueue, Cut}
 use Rattle.link.specs.Store.{marked, layoutPackets, layout}
-use Rattle.link.proofs.Sender.{cut-queue}
+use Rattle.packing.specs.Filling.{fillFront, fillWaiting, fillFrom, fill}
+use Rattle.packing.proofs.Filling.{front-whole, front-part, waiting-front, waiting-none, waiting-full, fill-queue}
 
 -- the mark of a packet that is begun; none where none is
 abbrev pub begunMark : Option (List ℕ) → List ℕ
@@ -59,42 +59,38 @@ leaves-behind mark bytes {all} {left} l = record {
   is = l .is ∙ ap (λ (b : List ℕ). begunMark (left .rest) ++ b) (sym (behind-mark mark (length bytes + l .sent) (bytes ++ all) ∙ drop-append-add bytes all (l .sent)));
 }
 
-packet-left : (n : ℕ) (p : Packet) (ps : List Packet) → n < length p → LeftOf (layoutPackets (p ∷ ps)) (cutPacket n p ps .left)
-packet-left zero p ps h = leaves-waiting (p ∷ ps)
-packet-left (suc n) p ps h = leaves-rest (suc n) (length p) p ps (omega arith)
-
-waiting-left : (n : ℕ) (ps : List Packet) → LeftOf (layoutPackets ps) (cutWaiting n ps .left)
-waiting-left n [] = leaves-waiting []
-waiting-left n (p ∷ ps) = go (leb (length p) n) refl (waiting-left (n - length p) ps)
+-- the front packet, which may be begun: all of it is sent where it fits, or it is cut
+front-left : (room : ℕ) (first : Bool) (mark : ℕ) (bytes : List ℕ) (packets : List Packet) (more : Cut) → LeftOf (layoutPackets packets) (more .left)
+    → LeftOf (marked mark (bytes ++ layoutPackets packets)) (fillFront room first bytes packets more .left)
+front-left room first mark bytes packets more l = go (decLe (2 + length bytes) room)
   where
-    go : (test : Bool) → leb (length p) n ≡ test → LeftOf (layoutPackets ps) (cutWaiting (n - length p) ps .left)
-        → LeftOf (layoutPackets (p ∷ ps)) (cond test (pieceThen (record { first = true; last = true; bytes = p }) (cutWaiting (n - length p) ps)) (cutPacket n p ps) .left)
-    go true t more = leaves-behind (length p) p more
-    go false t more = packet-left n p ps (omega (arith, leb-false (length p) n t))
+    go : Dec (2 + length bytes ≤ room) → LeftOf (marked mark (bytes ++ layoutPackets packets)) (fillFront room first bytes packets more .left)
+    go (yes y) = rw (front-whole room first bytes packets more y) (leaves-behind mark bytes l)
+    go (no y) = rw (front-part room first bytes packets more (omega arith)) (leaves-rest (room - 2) mark bytes packets (omega arith))
 
-rest-left : (n : ℕ) (rest : List ℕ) (ps : List Packet) → n < length rest → LeftOf (marked (32768 + length rest) (rest ++ layoutPackets ps)) (cutRest n rest ps .left)
-rest-left zero rest ps h = leaves-rest 0 (32768 + length rest) rest ps (omega arith)
-rest-left (suc n) rest ps h = leaves-rest (suc n) (32768 + length rest) rest ps (omega arith)
+waiting-left : (room : ℕ) (ps : List Packet) → LeftOf (layoutPackets ps) (fillWaiting room ps .left)
+waiting-left room [] = rw (waiting-none room) (leaves-waiting [])
+waiting-left room (p ∷ ps) = go (decLe 3 room) (waiting-left (room - (2 + length p)) ps)
+  where
+    go : Dec (3 ≤ room) → LeftOf (layoutPackets ps) (fillWaiting (room - (2 + length p)) ps .left) → LeftOf (layoutPackets (p ∷ ps)) (fillWaiting room (p ∷ ps) .left)
+    go (yes y) more = rw (waiting-front room p ps y) (front-left room true (length p) p ps (fillWaiting (room - (2 + length p)) ps) more)
+    go (no y) more = rw (waiting-full room (p ∷ ps) (omega arith)) (leaves-waiting (p ∷ ps))
 
-pub cut-left : (n : ℕ) (q : Queue) → LeftOf (layout q) (cut n q .left)
+pub fill-left : (q : Queue) → LeftOf (layout q) (fill 1908 q .left)
 unfolding layout
-cut-left n q = go (q .rest)
+fill-left q = go (q .rest)
   where
-    go : (rest : Option (List ℕ)) → LeftOf (layout (record { rest = rest; waiting = q .waiting })) (cutFrom n rest (q .waiting) .left)
-    go none = waiting-left n (q .waiting)
-    go (some rest) = by-test (leb (length rest) n) refl
-      where
-        by-test : (test : Bool) → leb (length rest) n ≡ test
-            → LeftOf (marked (32768 + length rest) (rest ++ layoutPackets (q .waiting)))
-            (cond test (pieceThen (record { first = false; last = true; bytes = rest }) (cutWaiting (n - length rest) (q .waiting))) (cutRest n rest (q .waiting)) .left)
-        by-test true t = leaves-behind (32768 + length rest) rest (waiting-left (n - length rest) (q .waiting))
-        by-test false t = rest-left n rest (q .waiting) (omega (arith, leb-false (length rest) n t))
+    go : (rest : Option (List ℕ)) → LeftOf (layout (record { rest = rest; waiting = q .waiting })) (fillFrom 1908 rest (q .waiting) .left)
+    go none = waiting-left 1908 (q .waiting)
+    go (some rest) =
+        let room = 1908 - (2 + length rest) in
+        front-left 1908 false (32768 + length rest) rest (q .waiting) (fillWaiting room (q .waiting)) (waiting-left room (q .waiting))
 
 -- So it takes no more bytes than there were,
-pub left-no-longer : (n : ℕ) (q : Queue) → length (layout (cut n q .left)) ≤ length (layout q)
-left-no-longer n q =
-    let l = cut-left n q in
-    let mark = begunMark (cut n q .left .rest) in
+pub left-no-longer : (q : Queue) → length (layout (fill 1908 q .left)) ≤ length (layout q)
+left-no-longer q =
+    let l = fill-left q in
+    let mark = begunMark (fill 1908 q .left .rest) in
     omega (arith, ap length (l .is), length-append mark (drop (l .sent) (layout q)), length-drop (l .sent) (layout q), l .covers, l .within)
 
 -- and is bytes where they were.
@@ -102,8 +98,8 @@ mark-bytes : (rest : Option (List ℕ)) → IsRest rest → Bytes (begunMark res
 mark-bytes none r = tt
 mark-bytes (some rest) r = (omega (arith, r .1), (omega arith, tt))
 
-pub left-bytes : (n : ℕ) (q : Queue) → IsQueue q → Bytes (layout q) → Bytes (layout (cut n q .left))
-left-bytes n q h b =
-    let l = cut-left n q in
-    let left = cut n q .left in
-    rw (l .is) (bytes-append (begunMark (left .rest)) (drop (l .sent) (layout q)) (mark-bytes (left .rest) (cut-queue n q h .0)) (bytes-drop (l .sent) (layout q) b))
+pub left-bytes : (q : Queue) → IsQueue q → Bytes (layout q) → Bytes (layout (fill 1908 q .left))
+left-bytes q h b =
+    let l = fill-left q in
+    let left = fill 1908 q .left in
+    rw (l .is) (bytes-append (begunMark (left .rest)) (drop (l .sent) (layout q)) (mark-bytes (left .rest) (fill-queue q h .0)) (bytes-drop (l .sent) (layout q) b))

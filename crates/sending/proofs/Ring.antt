@@ -7,11 +7,10 @@ use native.Mathlib.Omega.{arith}
 use lib.ListN.{length, getD}
 use Rattle.basics.specs.Lists.{Bytes}
 use Rattle.basics.proofs.Lists.{bytes-take}
-use Rattle.lent.proofs.Outcome.{accepted}
+use Rattle.lent.proofs.Refusals.{accepted}
 use Rattle.link.specs.Link.{Queue}
 use Rattle.link.specs.Store.{layout}
 use Rattle.link.proofs.RoundTrip.{layout-back}
-use Rattle.packing.specs.Filling.{load}
 use Rattle.header.specs.declared.Fields.{Fields}
 use Rattle.header.specs.declared.FrameKind.{FrameKind}
 use Rattle.ring.specs.Ring.{roundFrom, ringWritten}
@@ -24,7 +23,7 @@ use Rattle.filling.proofs.Freeing.{frees}
 use Rattle.sender.specs.declared.Sender.{Sender}
 use Rattle.sending.specs.Next.{kindFor, leftIn, senderAfter, nextRefusal, NextOutcome}
 use Rattle.sending.specs.declared.NextAnswer.the-variants.{Sent}
-use Rattle.sending.proofs.Left.{begunMark, mark-short, LeftOf, cut-left, left-no-longer}
+use Rattle.sending.proofs.Left.{begunMark, mark-short, LeftOf, fill-left, left-no-longer}
 use Rattle.sending.proofs.Sending.{NextPassed, next-passed, sent-so}
 
 no-bytes : (l : List ℕ) → length l ≡ 0 → l ≡ []
@@ -82,12 +81,12 @@ module _ {taps : ℕ} {fields : Fields} {sender : Sender} {bytes out : List ℕ}
     size = used-length bytes start used (omega (arith, passed .most, passed .long))
 
     pub left-fits : length (layout left) ≤ used
-    left-fits = omega (arith, left-no-longer (load queue) queue, ap length laid, size)
+    left-fits = omega (arith, left-no-longer queue, ap length laid, size)
 
     -- Of the ring a frame writes the mark of a packet that it leaves begun, at the new start, and nothing else.
     pub next-writes : bytes′ ≡ ringWritten bytes (sender′ .start) 0 (begunMark (left .rest))
     next-writes =
-        let l : LeftOf waits left = subst (λ (all : List ℕ). LeftOf all left) laid (cut-left (load queue) queue) in
+        let l : LeftOf waits left = subst (λ (all : List ℕ). LeftOf all left) laid (fill-left queue) in
         let mark = begunMark (left .rest) in
         let freed = frees bytes start used (l .sent) (passed .long) (passed .within) (passed .most) (omega (arith, l .within, size)) (l .sent - length mark) mark (layout left)
         (omega (arith, l .covers)) (l .is) refl in

@@ -11,13 +11,12 @@ use borrow.Author.Tests.{eqb-true, leb-true, eq-eqb, ne-eqb}
 use Rattle.basics.specs.Lists.{Bytes}
 use Rattle.basics.proofs.Lists.{bytes-take}
 use Rattle.basics.proofs.Tests.{left-true, right-true}
-use Rattle.lent.specs.Outcome.{by}
-use Rattle.lent.proofs.Outcome.{gate, numbered}
-use Rattle.link.specs.Link.{Packet, Queue, Cut}
-use Rattle.link.specs.Store.{layoutRest, layoutPackets, layout, isWhole}
-use Rattle.link.proofs.RoundTrip.{parse-queue, layout-back}
-use Rattle.packing.specs.Filling.{fillWaiting, area}
-use Rattle.packing.proofs.Filling.{fill-cut}
+use Rattle.lent.specs.Refusals.{by, answerBy}
+use Rattle.lent.proofs.Refusals.{unless-passed}
+use Rattle.link.specs.Link.{Packet, Queue}
+use Rattle.link.specs.Store.{layoutRest, layoutPackets, layout}
+use Rattle.link.specs.Parsing.{isWhole}
+use Rattle.link.proofs.RoundTrip.{layout-back}
 use Rattle.scrambler.specs.Scrambler.{tapsAllowed}
 use Rattle.header.specs.Header.{fieldsFit}
 use Rattle.header.specs.declared.Fields.{Fields}
@@ -33,8 +32,7 @@ use Rattle.filling.specs.Filling.{remaining, FillOutcome, Freed}
 use Rattle.filling.specs.declared.Filled.{Filled}
 use Rattle.filling.specs.declared.Left.{Left}
 use Rattle.sender.specs.declared.Sender.{Sender}
-use Rattle.sending.specs.Next.{kindFor, areaFor, leftIn, nextRefusal, nextNumber, nextAnswer, NextOutcome}
-use Rattle.sending.specs.declared.NextAnswer.{NextAnswer}
+use Rattle.sending.specs.Next.{kindFor, leftIn, nextRefusal}
 use Rattle.sending.specs.declared.NextAnswer.the-variants.{Sent, Refused}
 
 pub record NextPassed (taps : ℕ) (fields : Fields) (start used : ℕ) (queue out : List ℕ) : Type 0 where
@@ -50,10 +48,10 @@ pub next-passed : (taps : ℕ) (fields : Fields) (start used : ℕ) (queue out :
     → NextPassed taps fields start used queue out
 unfolding nextRefusal
 next-passed taps fields start used queue out e =
-    let allowed = gate (tapsAllowed taps) _ 1 (omega arith) e in
-    let sizes = gate (eqb (length queue) 32768 && leb 2081 (length out)) _ 2 (omega arith) (allowed .1) in
-    let whole = gate (isRingWhole queue start used) _ 3 (omega arith) (sizes .1) in
-    let fits = gate (fieldsFit fields) 0 6 (omega arith) (whole .1) in
+    let allowed = unless-passed 1 (tapsAllowed taps) _ (omega arith) e in
+    let sizes = unless-passed 2 (eqb (length queue) 32768 && leb 2081 (length out)) _ (omega arith) (allowed .1) in
+    let whole = unless-passed 3 (isRingWhole queue start used) _ (omega arith) (sizes .1) in
+    let fits = unless-passed 6 (fieldsFit fields) [] (omega arith) (whole .1) in
     let ring = ring-passed queue start used (whole .0) in
     record {
       allowed = allowed .0;
@@ -66,16 +64,6 @@ next-passed taps fields start used queue out e =
     }
 
 -- ---- from what filling did to the contract
-
--- an area of no records is zeros
-pub idle-area : (q : Queue) → area q ≡ areaFor q
-unfolding area fillWaiting
-idle-area q = go (q .rest) (q .waiting)
-  where
-    go : (rest : Option (List ℕ)) (ps : List Packet) → area (record { rest = rest; waiting = ps }) ≡ areaFor (record { rest = rest; waiting = ps })
-    go none [] = refl
-    go none (p ∷ ps) = refl
-    go (some rest) ps = refl
 
 -- a queue is busy where it has bytes
 busy-kind : (q : Queue) (used : ℕ) → used ≡ length (layout q) → cond (eqb used 0) Idle Data ≡ kindFor q
@@ -104,26 +92,16 @@ module _ {taps : ℕ} {fields : Fields} {start used : ℕ} {queue out : List ℕ
       busy-kind waiting used (sym (ap length is ∙ used-is))
 
   module _ {filled : Filled} {after : List ℕ} (o : FillOutcome bytes filled after) where
-    pub area-is : after ≡ areaFor waiting
-    area-is = o .filled ∙ idle-area waiting
-
-    pub rest-is : remaining (filled .unsent) (drop (filled .stop) bytes) ≡ layout (leftIn waiting)
-    rest-is = sym (o .rest) ∙ ap (λ (c : Cut). layout (c .left)) (fill-cut waiting (parse-queue bytes waiting (whole-parsed bytes (p .whole))))
-
     pub stop-within : filled .stop ≤ used
     stop-within = omega (arith, o .inside, used-is)
 
     -- what freeing did, of the queue that is left
     pub freed-is : {left : Left} {queue′ : List ℕ} → Freed queue start used (remaining (filled .unsent) (drop (filled .stop) bytes)) left queue′
         → Freed queue start used (layout (leftIn waiting)) left queue′
-    freed-is {left} {queue′} f = subst (λ (rest : List ℕ). Freed queue start used rest left queue′) rest-is f
-
--- the answer's number is the one that it was made for
-pub next-numbers : (number : ℕ) (sender : Sender) (kind : FrameKind) → nextNumber (nextAnswer number sender kind) ≡ number
-next-numbers number sender kind = numbered nextNumber (Sent sender kind) (λ n. Refused n) refl (λ n. refl) number
+    freed-is {left} {queue′} f = subst (λ (rest : List ℕ). Freed queue start used rest left queue′) (sym (o .rest)) f
 
 -- the answer tells that a frame was sent
-pub sent-so : (number : ℕ) (after sender : Sender) (kind kind′ : FrameKind) → Sent after kind ≡ nextAnswer number sender kind′
+pub sent-so : (number : ℕ) (after sender : Sender) (kind kind′ : FrameKind) → Sent after kind ≡ answerBy number (Sent sender kind′) Refused
     → (number ≡ 0) × (after ≡ sender) × (kind ≡ kind′)
 unfolding by
 sent-so number after sender kind kind′ = go (eqb number 0) refl
@@ -131,13 +109,6 @@ sent-so number after sender kind kind′ = go (eqb number 0) refl
     go : (test : Bool) → eqb number 0 ≡ test → Sent after kind ≡ cond test (Sent sender kind′) (Refused number) → (number ≡ 0) × (after ≡ sender) × (kind ≡ kind′)
     go true t e = (eqb-true number 0 t, cc, cc)
     go false t e = let z : _≡_ {A = ℕ} 0 1 = cc in absurd (omega arith)
-
--- Any two outcomes that the contract of `next_frame` admits are equal.
-pub next-frame-one : (taps : ℕ) (fields : Fields) (sender : Sender) (queue out : List ℕ) (r₁ r₂ : NextAnswer) (queue₁ queue₂ out₁ out₂ : List ℕ)
-    → NextOutcome taps fields sender queue out r₁ queue₁ out₁ → NextOutcome taps fields sender queue out r₂ queue₂ out₂
-    → (r₁ ≡ r₂) × (queue₁ ≡ queue₂) × (out₁ ≡ out₂)
-next-frame-one taps fields sender queue out r₁ r₂ queue₁ queue₂ out₁ out₂ x y =
-    (x .answer ∙ sym (y .answer), x .bytes ∙ sym (y .bytes), x .frame ∙ sym (y .frame))
 
 -- an answer, part by part
 pub sent-path : {start start′ used used′ : ℕ} {next : Txfn} {count : ℕ} {kind kind′ : FrameKind} → start ≡ start′ → used ≡ used′ → next .0 ≡ count → kind ≡ kind′

@@ -1,17 +1,17 @@
--- Building the next frame (01, "Next frame"; 02, M-105), for all inputs. A refusal's number is 0 where nothing is refused (01, "Refusal numbers").
+-- Building the next frame (01, "Next frame"; 02, M-105), for all inputs.
 use mathlib.Core.Path.{_≡_}
 use mathlib.Core.Bool.{cond, _&&_}
-use mathlib.Core.List.{List}
+use mathlib.Core.List.{List, [], _∷_}
 use Prim.Native.Nat.{ℕ}
 use lib.Dec.{eqb, leb}
 use lib.ListN.{length}
-use Rattle.basics.specs.Lists.{zeros}
-use Rattle.lent.specs.Outcome.{by}
+use Rattle.basics.specs.Sizes.{areaSize, frameSize, queueSize}
+use Rattle.lent.specs.Refusals.{Row, _unless_, firstOf, by, answerBy}
 use Rattle.lent.specs.Written.{written}
-use Rattle.link.specs.Link.{Queue, cut}
-use Rattle.link.specs.Packing.{busy}
+use Rattle.link.specs.Link.{Queue, busy}
 use Rattle.link.specs.Store.{layout}
-use Rattle.packing.specs.Filling.{load, area}
+use Rattle.packing.specs.Rules.{areaOf}
+use Rattle.packing.specs.Filling.{fill}
 use Rattle.scrambler.specs.Scrambler.{tapsAllowed}
 use Rattle.basics.specs.Counts.{nextTxfn}
 use Rattle.header.specs.Header.{fieldsFit}
@@ -28,12 +28,13 @@ use Rattle.sending.specs.declared.NextAnswer.the-variants.{Sent, Refused
 
 -- ---------------------------------------------------------------- the frame for a queue
 
--- DATA where a byte waits, otherwise IDLE with an area of zeros
+-- DATA where a byte waits, otherwise IDLE
 abbrev pub kindFor : Queue → FrameKind
 kindFor queue = cond (busy queue) Data Idle
 
+-- its records, then zeros; with nothing to send, zeros only (`area-idle` in crates/packing/proofs/Bench.antt)
 abbrev pub areaFor : Queue → List ℕ
-areaFor queue = cond (busy queue) (area queue) (zeros 1908)
+areaFor queue = areaOf (fill areaSize queue .pieces)
 
 -- TXFN is the sender's own count
 abbrev pub headerFor : Sender → Fields → Queue → Header
@@ -41,7 +42,7 @@ headerFor sender fields queue = record { txfn = sender .next; kind = kindFor que
 
 -- what remains
 abbrev pub leftIn : Queue → Queue
-leftIn queue = cut (load queue) queue .left
+leftIn queue = fill areaSize queue .left
 
 -- the sender after a frame: what was sent is freed, so that the start moves on, and TXFN steps for every type
 abbrev pub senderAfter : Sender → Queue → Sender
@@ -51,21 +52,23 @@ senderAfter sender queue =
 
 -- ---------------------------------------------------------------- the call
 
--- the lowest number that applies, 0 for none
-unfoldable pub nextRefusal : ℕ → Fields → ℕ → ℕ → List ℕ → List ℕ → ℕ
-nextRefusal taps fields start used queue out =
-    cond (tapsAllowed taps)
-    (cond (eqb (length queue) 32768 && leb 2081 (length out))
-    (cond (isRingWhole queue start used)
-    (cond (fieldsFit fields) 0 6) 3) 2) 1
+-- The refusals of `next_frame` (01, "Refusal numbers"). 1: taps at or above 2^25, or tap 0 clear. 2: the queue is not 32,768 bytes, or out is under 2,081.
+-- 3: the queue is not whole. 6: a field to send is too large for its bits or against its rule.
+abbrev pub nextTable : ℕ → Fields → ℕ → ℕ → List ℕ → List ℕ → List Row
+nextTable taps fields start used queue out =
+    1 unless tapsAllowed taps
+    ∷ 2 unless (eqb (length queue) queueSize && leb frameSize (length out))
+    ∷ 3 unless isRingWhole queue start used
+    ∷ 6 unless fieldsFit fields
+    ∷ []
 
--- The paper's number for each case of the answer, and the case for a number: `next-numbers` in proofs/Sending.antt ties the two.
+unfoldable pub nextRefusal : ℕ → Fields → ℕ → ℕ → List ℕ → List ℕ → ℕ
+nextRefusal taps fields start used queue out = firstOf (nextTable taps fields start used queue out)
+
+-- the paper's number for each case of the answer (01, last section)
 abbrev pub nextNumber : NextAnswer → ℕ
 nextNumber (Sent sender kind) = 0
 nextNumber (Refused number) = number
-
-abbrev pub nextAnswer : ℕ → Sender → FrameKind → NextAnswer
-nextAnswer number sender kind = by number (Sent sender kind) (Refused number)
 
 module _ (taps : ℕ) (fields : Fields) (sender : Sender) (queue out : List ℕ) where
   abbrev number : ℕ
@@ -78,6 +81,6 @@ module _ (taps : ℕ) (fields : Fields) (sender : Sender) (queue out : List ℕ)
   -- written to the front of out; all other bytes keep their values. What remains stood there before, but for a cut packet's new mark: `next-writes` in
   -- proofs/Ring.antt.
   pub record NextOutcome (r : NextAnswer) (queue′ out′ : List ℕ) : Type 0 where
-    pub answer : r ≡ nextAnswer number (senderAfter sender waiting) (kindFor waiting)
+    pub answer : r ≡ answerBy number (Sent (senderAfter sender waiting) (kindFor waiting)) Refused
     pub bytes : queue′ ≡ by number (ringWritten queue (senderAfter sender waiting .start) 0 (layout (leftIn waiting))) queue
     pub frame : out′ ≡ by number (written out 0 (frameBytes taps (headerFor sender fields waiting) (areaFor waiting))) out

@@ -1,4 +1,6 @@
 // The next frame: what waits in the ring goes out frame by frame (01, "Next frame"; 02, M-105).
+use basics::sizes;
+use filling::Left;
 use header::Fields;
 use header::FrameKind;
 use header::Header;
@@ -6,6 +8,7 @@ use sender::Sender;
 ghost use mathlib.Core.Path.{_≡_};
 ghost use mathlib.Core.Bool.{cond};
 ghost use lib.Dec.{eqb};
+ghost use Rattle.basics.specs.Counts.{nextTxfn};
 ghost use Rattle.header.specs.declared.FrameKind.the-variants.{Idle, Data};
 ghost use Rattle.sending.specs.Next.{nextRefusal, NextOutcome};
 
@@ -27,10 +30,10 @@ fn next_refusal(
     if !scrambler::are_taps(taps) {
         return 1;
     }
-    if queue.len() != 32768 {
+    if queue.len() != sizes::QUEUE_SIZE {
         return 2;
     }
-    if out.len() < 2081 {
+    if out.len() < sizes::FRAME_SIZE {
         return 2;
     }
     if !marks::is_ring_whole(queue, start, used) {
@@ -54,6 +57,17 @@ fn kind_for(used: usize) -> FrameKind
     }
 }
 
+// The sender after a frame: what is left waits, and TXFN steps for every type.
+fn sender_after(sender: Sender, left: Left) -> Sender
+    ensures { λ r. ⌜ (r .start ≡ left .start) × (r .used ≡ left .used) × (r .next .0 ≡ nextTxfn (sender .next .0)) ⌝ }
+{
+    Sender {
+        start: left.start,
+        used: left.used,
+        next: sender.next.next(),
+    }
+}
+
 // Builds the next frame at the front of out, and takes what it carries off the ring. Refusals: 1, 2, 3, 6.
 pub fn next_frame(
     taps: u32,
@@ -70,7 +84,7 @@ pub fn next_frame(
     if number != 0 {
         return NextAnswer::Refused(number);
     }
-    let mut area = [0; 1908];
+    let mut area = [0; sizes::AREA_SIZE];
     let filled = filling::fill(queue, start, used, &mut area);
     let stop = filled.stop;
     let unsent = filled.unsent;
@@ -78,13 +92,8 @@ pub fn next_frame(
     let txfn = sender.next;
     let kind = kind_for(used);
     frame::build(taps, Header { txfn, kind, fields }, &area, out);
-    let next = txfn.next();
     NextAnswer::Sent {
-        sender: Sender {
-            start: left.start,
-            used: left.used,
-            next,
-        },
+        sender: sender_after(sender, left),
         kind,
     }
 }

@@ -1,22 +1,30 @@
 -- The outcome of each call for C, for all inputs: it is the outcome of one call of the library, on what C's numbers stand for, and C gets that call's
--- answer as numbers.
+-- answer as numbers. That each keeps demand 1 is `EveryCallForC` in crates/demands/specs/CallsForC.antt.
 use mathlib.Core.Path.{_≡_}
 use mathlib.Core.List.{List}
 use Prim.Native.Nat.{ℕ}
+use lib.IntN.{ℤ}
 use Rattle.header.specs.Calls.{CodeHeaderOutcome, codeNumber}
 use Rattle.header.specs.declared.CodeAnswer.{CodeAnswer}
+use Rattle.reading.specs.Reading.{readHeader}
+use Rattle.level.specs.Level.{levelOf}
+use Rattle.list.specs.Entries.{entryAnswer}
+use Rattle.receiver.specs.Applying.{freshReceiver}
 use Rattle.receiving.specs.Receiving.{ReceiveOutcome}
 use Rattle.receiving.specs.declared.ReceiveAnswer.{ReceiveAnswer}
-use Rattle.sender.specs.Put.{PutOutcome}
+use Rattle.sender.specs.Put.{freshSender, PutOutcome}
 use Rattle.sending.specs.Next.{NextOutcome}
 use Rattle.sender.specs.declared.PutAnswer.{PutAnswer}
 use Rattle.sending.specs.declared.NextAnswer.{NextAnswer}
-use Rattle.flat.specs.Answers.{flatPut, flatNext, flatReceive}
+use Rattle.flat.specs.Answers.{flatPut, flatNext, flatReceive, flatRead, flatEntry, flatPacket}
 use Rattle.flat_headers.specs.Headers.{fieldsOf, headerOf}
-use Rattle.flat_states.specs.States.{senderOf, receiverOf}
+use Rattle.flat_states.specs.States.{senderOf, flatSender, receiverOf, flatReceiver}
 use Rattle.flat.specs.declared.FlatPut.{FlatPut}
 use Rattle.flat.specs.declared.FlatNext.{FlatNext}
 use Rattle.flat.specs.declared.FlatReceive.{FlatReceive}
+use Rattle.flat.specs.declared.FlatRead.{FlatRead}
+use Rattle.flat.specs.declared.FlatEntry.{FlatEntry}
+use Rattle.flat.specs.declared.FlatPacket.{FlatPacket}
 use Rattle.flat_headers.specs.declared.headers.FlatFields.{FlatFields}
 use Rattle.flat_headers.specs.declared.headers.FlatHeader.{FlatHeader}
 use Rattle.flat_states.specs.declared.FlatReceiver.{FlatReceiver}
@@ -41,3 +49,24 @@ pub record CodeCall (header : FlatHeader) (before : List ℕ) (r : ℕ) (after :
   pub answer : CodeAnswer
   pub outcome : CodeHeaderOutcome (headerOf header) before answer after
   pub flat : r ≡ codeNumber answer
+
+-- calls that write nothing: what they answer
+
+abbrev pub FreshSenderCall : FlatSender → Type 0
+FreshSenderCall r = r ≡ flatSender freshSender
+
+abbrev pub FreshReceiverCall : FlatReceiver → Type 0
+FreshReceiverCall r = r ≡ flatReceiver freshReceiver
+
+abbrev pub EntryCall : List ℕ → ℕ → FlatEntry → Type 0
+EntryCall list position r = r ≡ flatEntry (entryAnswer list position)
+
+-- the place of the packet alone; `packet-placed` in flat/proofs/Packets.antt: these are the bytes that the library's `packet` hands back
+abbrev pub PacketCall : List ℕ → ℕ → FlatPacket → Type 0
+PacketCall list position r = r ≡ flatPacket (entryAnswer list position)
+
+abbrev pub ReadCall : List ℕ → FlatRead → Type 0
+ReadCall bytes r = r ≡ flatRead (readHeader bytes)
+
+abbrev pub LevelCall : ℕ → ℤ → Type 0
+LevelCall code r = r ≡ levelOf code

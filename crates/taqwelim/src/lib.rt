@@ -12,19 +12,11 @@ use flat_states::FlatReceiver;
 use flat_states::FlatSender;
 use receiver::Receiver;
 use sender::Sender;
-ghost use mathlib.Core.Path.{_≡_};
-ghost use Rattle.reading.specs.Reading.{readHeader};
-ghost use Rattle.level.specs.Level.{levelOf};
-ghost use Rattle.list.specs.Reading.{entryAnswer};
-ghost use Rattle.receiver.specs.Applying.{freshReceiver};
-ghost use Rattle.sender.specs.Put.{freshSender};
-ghost use Rattle.flat_states.specs.States.{flatSender, flatReceiver};
-ghost use Rattle.flat.specs.Answers.{flatRead, flatEntry, flatPacket};
-ghost use Rattle.taqwelim.specs.Calls.{PutCall, NextCall, ReceiveCall, CodeCall};
+ghost use Rattle.taqwelim.specs.Calls.{FreshSenderCall, PutCall, NextCall, FreshReceiverCall, ReceiveCall, EntryCall, PacketCall, CodeCall, ReadCall, LevelCall};
 
 #[no_mangle]
 pub extern "C" fn taqwelim_fresh_sender() -> FlatSender
-    ensures { λ r. ⌜ r ≡ flatSender freshSender ⌝ }
+    ensures { λ r. ⌜ FreshSenderCall r ⌝ }
 {
     flat_states::flat_sender(Sender::fresh())
 }
@@ -61,7 +53,7 @@ pub extern "C" fn taqwelim_next_frame(
 
 #[no_mangle]
 pub extern "C" fn taqwelim_fresh_receiver() -> FlatReceiver
-    ensures { λ r. ⌜ r ≡ flatReceiver freshReceiver ⌝ }
+    ensures { λ r. ⌜ FreshReceiverCall r ⌝ }
 {
     flat_states::flat_receiver(Receiver::fresh())
 }
@@ -84,15 +76,15 @@ pub extern "C" fn taqwelim_receive(
 // Refusal: 16.
 #[no_mangle]
 pub extern "C" fn taqwelim_entry(list: &[u8], position: usize) -> FlatEntry
-    ensures { λ r. ⌜ r ≡ flatEntry (entryAnswer (now (list .entry)) position) ⌝ }
+    ensures { λ r. ⌜ EntryCall (now (list .entry)) position r ⌝ }
 {
     flat::flat_entry(list::entry(list, position))
 }
 
-// The place of the packet alone; `packet-placed` in flat/proofs/Packets.antt: these are the bytes that the library's `packet` hands back.
+// Where the packet stands in the caller's list, for C has no slices.
 #[no_mangle]
 pub extern "C" fn taqwelim_packet(list: &[u8], position: usize) -> FlatPacket
-    ensures { λ r. ⌜ r ≡ flatPacket (entryAnswer (now (list .entry)) position) ⌝ }
+    ensures { λ r. ⌜ PacketCall (now (list .entry)) position r ⌝ }
 {
     flat::flat_packet(list::entry(list, position))
 }
@@ -103,20 +95,20 @@ pub extern "C" fn taqwelim_code_header(header: FlatHeader, out: &mut [u8]) -> u8
     ensures { λ r. ⌜ CodeCall header (now (out .entry)) r (now (out .exit)) ⌝ }
 {
     let answer = header::code_header(headers::header_of(header), out);
-    flat::code_number(answer)
+    headers::code_number(answer)
 }
 
 // Refusals: 2, 9, 10, 11.
 #[no_mangle]
 pub extern "C" fn taqwelim_read_header(bytes: &[u8]) -> FlatRead
-    ensures { λ r. ⌜ r ≡ flatRead (readHeader (now (bytes .entry))) ⌝ }
+    ensures { λ r. ⌜ ReadCall (now (bytes .entry)) r ⌝ }
 {
     flat::flat_read(reading::read_header(bytes))
 }
 
 #[no_mangle]
 pub extern "C" fn taqwelim_level(code: u8) -> i32
-    ensures { λ r. ⌜ r ≡ levelOf code ⌝ }
+    ensures { λ r. ⌜ LevelCall code r ⌝ }
 {
     level::level(code)
 }

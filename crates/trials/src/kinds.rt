@@ -1,18 +1,30 @@
 // The kinds of record: which crate tries one, and its line in the table. Numbers are never used for another kind.
+ghost use Prim.Native.Nat.{_≤_};
 use lent_bytes::Lent;
 use outcome::Outcome;
+use vector_records::tally;
 use vector_records::tally::Tally;
 use vectors::text;
 
+// The kind without what says that a record is planted: a planted one is tried as any other.
+fn tried_as(kind: u8) -> u8 {
+    if kind < tally::PLANTED {
+        kind
+    } else {
+        kind - tally::PLANTED
+    }
+}
+
 // The frame at hand is the last that a record brought. It, the sender's queue and the receiver's hold and list stay from record to record.
 pub fn outcome(
-    kind: u8,
+    given: u8,
     body: &mut [u8],
     at_hand: &mut Lent,
     queue: &mut [u8],
     hold: &mut [u8],
     list: &mut [u8],
 ) -> Outcome {
+    let kind = tried_as(given);
     if kind < 10 {
         return code_trials::kinds::outcome(kind, body);
     }
@@ -25,23 +37,39 @@ pub fn outcome(
     if kind < 21 {
         return sender_trials::kinds::outcome(kind, body, queue, at_hand);
     }
-    receiver_trials::kinds::outcome(kind, body, at_hand, hold, list)
+    if kind < 28 {
+        return receiver_trials::kinds::outcome(kind, body, at_hand, hold, list);
+    }
+    code_trials::kinds::outcome(kind, body)
+}
+
+// The lines of all kinds, whose numbers are these and so much more.
+fn print_rows(tally: Tally, more: u64)
+    requires { ⌜ more ≤ 64 ⌝ }
+{
+    tally.print_kinds(
+        1 + more,
+        b"CRC-16\nCRC-32\npower of 2\nparity\ncodeword judged\npayload coded\npayload judged\ntaps judged\nbytes scrambled\n",
+    );
+    tally.print_kinds(10 + more, b"level\nheader coded\nheader read\n");
+    tally.print_kinds(13 + more, b"frame built\nframe opened\nframe refused\n");
+    tally.print_kinds(
+        16 + more,
+        b"queue begun\nqueue changed\npacket put\nnext frame\nqueue in full\n",
+    );
+    tally.print_kinds(
+        21 + more,
+        b"hold and list begun\nframe received\nlist changed\nlist read\nlist in full\nhold in full\narea applied\n",
+    );
+    tally.print_kinds(
+        28 + more,
+        b"parity, plain form\ncodeword judged, plain form\npayload coded, plain form\npayload judged, plain form\nbytes scrambled, plain form\n",
+    );
 }
 
 pub fn print(tally: Tally) {
     text::say(b"compared different kind\n");
-    tally.print_kinds(
-        1,
-        b"CRC-16\nCRC-32\npower of 2\nparity\ncodeword judged\npayload coded\npayload judged\ntaps judged\nbytes scrambled\n",
-    );
-    tally.print_kinds(10, b"level\nheader coded\nheader read\n");
-    tally.print_kinds(13, b"frame built\nframe opened\nframe refused\n");
-    tally.print_kinds(
-        16,
-        b"queue begun\nqueue changed\npacket put\nnext frame\nqueue in full\n",
-    );
-    tally.print_kinds(
-        21,
-        b"hold and list begun\nframe received\nlist changed\nlist read\nlist in full\nhold in full\n",
-    );
+    print_rows(tally, 0);
+    text::say(b"planted different kind\n");
+    print_rows(tally, tally::PLANTED as u64);
 }

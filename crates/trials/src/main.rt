@@ -1,5 +1,5 @@
 // Runs the proved libraries against published check values and against the second coder's vectors, which it reads from
-// standard input, and prints how many agree. `tests/README.md` says where the vectors come from.
+// standard input, and prints how many agree, and how many of those that are planted, and wrong, do not. `tests/README.md` says where the vectors come from.
 mod kinds;
 
 use frame_trials::frames;
@@ -76,6 +76,7 @@ fn all_tried(
 
 fn main() {
     let checks = published::tried();
+    let wrong_checks = published::planted();
     let announced = record::read_count();
     let mut lent = io::large_buffer();
     let mut queue = queues::none();
@@ -89,7 +90,9 @@ fn main() {
         &mut list,
     ).ended(record::is_at_end());
     kinds::print(tally);
-    text::say(b"check values ");
+    text::say(b"planted check values ");
+    wrong_checks.print();
+    text::say(b"\ncheck values ");
     checks.print();
     text::say(b"\n");
     tally.print_totals(announced);

@@ -1,16 +1,32 @@
 // What the records came to.
+ghost use Prim.Native.Nat.{_<_};
 use outcome::Outcome;
 use vectors::count;
 use vectors::count::Count;
 use vectors::text;
 
-// A record's kind is a number below this one.
-pub const KINDS: usize = 32;
+// A record's kind is a number below this one. One that is planted has so much more: what it expects is wrong, and it has to come out as different.
+pub const PLANTED: u8 = 64;
+
+// Kinds, and those that are planted.
+const KINDS: usize = 128;
+
+fn is_planted(kind: u8) -> bool {
+    PLANTED <= kind
+}
+
+// Where the records of a kind are counted together.
+fn totals_place(kind: u8) -> usize
+    ensures { λ r. ⌜ r < 2 ⌝ }
+{
+    if is_planted(kind) { 1 } else { 0 }
+}
 
 pub struct Tally {
     // By kind.
     pub kinds: [Count; KINDS],
-    pub total: Count,
+    // Of the records that are not planted, and of those that are. One place in the code counts both, so that what it does to planted ones tells of others.
+    pub totals: [Count; 2],
     pub malformed: u64,
     // The place of the next record, from 1.
     pub place: u64,
@@ -22,19 +38,26 @@ impl Tally {
     pub fn new() -> Tally {
         Tally {
             kinds: [Count::none(); KINDS],
-            total: Count::none(),
+            totals: [Count::none(); 2],
             malformed: 0,
             place: 1,
             goes_on: true,
         }
     }
 
-    // With one record more.
+    // With one record more. A line says of it what it should not be.
     pub fn with(self, kind: u8, outcome: Outcome) -> Tally {
         match outcome {
-            Outcome::Same => self.compared(kind, true),
+            Outcome::Same => {
+                if is_planted(kind) {
+                    self.print_place(kind, b" is planted, and does not differ\n");
+                }
+                self.compared(kind, true)
+            }
             Outcome::Different => {
-                self.print_place(kind, b" differs\n");
+                if !is_planted(kind) {
+                    self.print_place(kind, b" differs\n");
+                }
                 self.compared(kind, false)
             }
             Outcome::Malformed => {
@@ -51,8 +74,9 @@ impl Tally {
             let of_kind = next.kinds[at];
             next.kinds[at] = of_kind.with(is_same);
         }
-        let total = next.total;
-        next.total = total.with(is_same);
+        let which = totals_place(kind);
+        let total = next.totals[which];
+        next.totals[which] = total.with(is_same);
         next.place = count::more(next.place);
         next
     }
@@ -114,10 +138,13 @@ impl Tally {
         }
     }
 
-    // The last line.
+    // The last lines.
     pub fn print_totals(self, announced: u64) {
-        let total = self.total;
-        text::say(b"vectors ");
+        let total = self.totals[0];
+        let planted = self.totals[1];
+        text::say(b"planted vectors ");
+        planted.print();
+        text::say(b"\nvectors ");
         text::number(announced);
         text::say(b" announced, ");
         total.print();

@@ -1,7 +1,7 @@
 use mathlib.Core.Path.{refl, sym, ap, _∙_}
 use native.Mathlib.Omega.{arith}
 use lib.ListN.{length}
-use Rattle.lent.proofs.Outcome.{refused, kept, accepted}
+use Rattle.lent.proofs.Refusals.{refused, kept, accepted}
 use Rattle.lent.specs.Written.{written}
 use Rattle.header.proofs.Calls.{code-length}
 use Rattle.lent.proofs.Written.{written-whole}

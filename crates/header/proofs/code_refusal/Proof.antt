@@ -3,12 +3,13 @@ use mathlib.Core.Path.{sym, _∙_}
 use native.Mathlib.Omega.{arith}
 use Prim.Native.Nat.{_<_}
 use Rattle.header.specs.Calls.{codeRefusal}
+use Rattle.lent.specs.Refusals.{firstOf}
 use borrow.Author.Needs.{needs}
 use Rattle.header.proofs.code_refusal.Statement.{statement}
 use Rattle.header.proofs.code_refusal.Tie as tie
 
 returns : tie.Need-returns
-unfolding codeRefusal
+unfolding codeRefusal firstOf
 returns c =
     let at-if1 = c .if1 in
     simp (ne-eqb _ _ (at-if1 .taken))
@@ -17,7 +18,7 @@ fields-fit-requires : tie.Need-fields-fit-requires
 fields-fit-requires c κs = search needs
 
 returns-2 : tie.Need-returns-2
-unfolding codeRefusal
+unfolding codeRefusal firstOf
 returns-2 c =
     let at-args = c .before .before .before .before .before .args in
     let at-if1 = c .before .before .before .if1 in
@@ -26,7 +27,7 @@ returns-2 c =
     let txfn-fits : at-args .header .txfn .0 < 65536 = omega arith in simp (eq-eqb _ _ (at-if1 .left), lt-ltb _ _ txfn-fits, sym (at-fields-fit .ensures) ∙ at-if2 .taken)
 
 returns-3 : tie.Need-returns-3
-unfolding codeRefusal
+unfolding codeRefusal firstOf
 returns-3 c =
     let at-args = c .before .before .before .before .before .args in
     let at-if1 = c .before .before .before .if1 in

@@ -2,7 +2,7 @@ use mathlib.Core.Path.{sym, _∙_}
 use Prim.Native.Nat.{_-_}
 use native.Mathlib.Omega.{arith}
 use borrow.Author.Needs.{needs}
-use Rattle.packing.proofs.Reading.{lies}
+use Rattle.packing.proofs.Records.{lies}
 use Rattle.joining.proofs.Reached.{Reached, begins, ready, goes-on, list-length, ends, not-against}
 use Rattle.joining.proofs.join.Statement.{statement}
 use Rattle.joining.proofs.join.Tie as tie
@@ -61,7 +61,7 @@ join-record-requires c κs =
     let at-pre = c .before .before .before .before .before .before .before .before .before .before .before .before .pre in
     let here = sym (at-record-at .ensures) ∙ at-found .given .1 in
     let found = at-found .given .0 .0 in
-    ready (at-loop .inv) found here (at-pre .1) (at-pre .3)
+    ready (at-loop .inv) found here (at-pre .low) (at-pre .room)
 
 loop-less : tie.Need-loop-less Inv-loop μ-loop
 loop-less c =
@@ -83,7 +83,7 @@ loop-again c =
     let at-pre = c .before .before .before .before .before .before .before .before .before .before .before .before .before .before .before .before .before .pre in
     let here = sym (at-record-at .ensures) ∙ at-found .given .1 in
     let found = at-found .given .0 .0 in
-    goes-on (at-loop .inv) found here (at-join-record .result) _ _ (at-pre .1) (at-pre .3) (at-join-record .ensures)
+    goes-on (at-loop .inv) found here (at-join-record .result) _ _ (at-pre .low) (at-pre .room) (at-join-record .ensures)
 
 enum-told : tie.Need-enum-told Inv-loop μ-loop
 enum-told c = search needs
@@ -92,13 +92,13 @@ same-length : tie.Need-same-length Inv-loop μ-loop
 same-length c =
     let at-loop = c .before .before .before .loop in
     let at-pre = c .before .before .before .before .before .before .before .pre in
-    omega (arith, at-loop .inv .hold-long, at-pre .2)
+    omega (arith, at-loop .inv .hold-long, at-pre .long)
 
 same-length-2 : tie.Need-same-length-2 Inv-loop μ-loop
 same-length-2 c =
     let at-loop = c .before .before .before .loop in
     let at-pre = c .before .before .before .before .before .before .before .pre in
-    list-length (at-loop .inv) (at-pre .1) (at-pre .3)
+    list-length (at-loop .inv) (at-pre .low) (at-pre .room)
 
 returns : tie.Need-returns Inv-loop μ-loop
 returns c =
@@ -115,13 +115,13 @@ same-length-3 : tie.Need-same-length-3 Inv-loop μ-loop
 same-length-3 c =
     let at-loop = c .before .before .before .loop in
     let at-pre = c .before .before .before .before .before .before .before .pre in
-    omega (arith, at-loop .inv .hold-long, at-pre .2)
+    omega (arith, at-loop .inv .hold-long, at-pre .long)
 
 same-length-4 : tie.Need-same-length-4 Inv-loop μ-loop
 same-length-4 c =
     let at-loop = c .before .before .before .loop in
     let at-pre = c .before .before .before .before .before .before .before .pre in
-    list-length (at-loop .inv) (at-pre .1) (at-pre .3)
+    list-length (at-loop .inv) (at-pre .low) (at-pre .room)
 
 returns-2 : tie.Need-returns-2 Inv-loop μ-loop
 returns-2 c =

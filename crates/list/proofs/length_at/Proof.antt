@@ -31,7 +31,7 @@ returns-3 c =
     let at-mark-at = c .before .before .mark-at in
     let at-is-length = c .before .is-length in
     let at-if3 = c .if3 in
-    let none = no-length (at-args .list .now) (at-args .position) (omega arith) _ (at-mark-at .ensures) _ (at-is-length .ensures) in
+    let none = no-length (at-args .list .now) (at-args .position) _ (at-mark-at .ensures) _ (at-is-length .ensures) in
     (none (not-true _ (at-if3 .taken)), λ ne. absurd (ne refl))
 
 returns-4 : tie.Need-returns-4
@@ -42,8 +42,8 @@ returns-4 c =
     let at-is-length = c .before .is-length in
     let list = at-args .list .now in
     let found = not-false _ (at-if3 .left) in
-    let one = is-length list (at-args .position) (omega arith) _ (at-mark-at .ensures) _ (at-is-length .ensures) found in
-    (one, λ ne. inside list (at-args .position) (omega arith) _ (at-mark-at .ensures) _ (at-is-length .ensures) found)
+    let one = is-length list (at-args .position) _ (at-mark-at .ensures) _ (at-is-length .ensures) found in
+    (one, λ ne. inside list (at-args .position) _ (at-mark-at .ensures) _ (at-is-length .ensures) found)
 
 pub length-at-spec : {M : Type 1} → statement M
 length-at-spec =

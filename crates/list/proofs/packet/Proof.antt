@@ -8,8 +8,14 @@ use Rattle.list.proofs.packet.Tie as tie
 length-at-requires : tie.Need-length-at-requires
 length-at-requires c κs = search needs
 
-slice-aggregate-result : tie.Need-slice-aggregate-result
-slice-aggregate-result c = search needs
+sub-result : tie.Need-sub-result
+sub-result c = search needs
+
+part-result-start : tie.Need-part-result-start
+part-result-start c = search needs
+
+part-result-end : tie.Need-part-result-end
+part-result-end c = search needs
 
 returns : tie.Need-returns
 returns c =
@@ -30,14 +36,14 @@ add-result c =
     let at-if1 = c .if1 in
     omega (arith, (at-length-at .ensures .1) (at-if1 .left))
 
-sub-result : tie.Need-sub-result
-sub-result c = search needs
+sub-result-2 : tie.Need-sub-result-2
+sub-result-2 c = search needs
 
-part-result-start : tie.Need-part-result-start
-part-result-start c = search needs
+part-result-start-2 : tie.Need-part-result-start-2
+part-result-start-2 c = search needs
 
-part-result-end : tie.Need-part-result-end
-part-result-end c =
+part-result-end-2 : tie.Need-part-result-end-2
+part-result-end-2 c =
     let at-length-at = c .before .length-at in
     let at-if1 = c .if1 in
     omega (arith, (at-length-at .ensures .1) (at-if1 .left))
@@ -54,11 +60,13 @@ packet-spec =
     tie.close
     (tie.spec
     length-at-requires
-    slice-aggregate-result
-    returns
-    add-start
-    add-result
     sub-result
     part-result-start
     part-result-end
+    returns
+    add-start
+    add-result
+    sub-result-2
+    part-result-start-2
+    part-result-end-2
     returns-2)

@@ -1,7 +1,7 @@
 -- Start and count are judged first, then the marks.
 use borrow.Author.Tests.{le-leb, lt-leb, lt-ltb, le-ltb}
 use Rattle.basics.proofs.Tests.{both-true}
-use Rattle.lent.proofs.Outcome.{with-test}
+use Rattle.lent.proofs.Refusals.{with-test}
 use Rattle.marks.specs.Queue.{isRingWhole}
 use borrow.Author.Needs.{needs}
 use Rattle.marks.proofs.is_ring_whole.Statement.{statement}

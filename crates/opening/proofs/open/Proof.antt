@@ -1,11 +1,15 @@
+-- The numbers are the table's (`outer-first`, `inner-then`); the area is written by them, and the header read, as the definitions have it.
 use native.Mathlib.Omega.{arith}
-use mathlib.Core.Path.{_≡_, sym, ap, _∙_}
-use lib.ListN.{length, drop, length-drop}
-use Rattle.lent.specs.Written.{written}
-use Rattle.opening.specs.Opening.{unscrambled, innerRefusal, openedHeader, openedArea, headerPart, areaPart}
+use mathlib.Core.Path.{_≡_, sym, ap, ap₂, _∙_}
+use mathlib.Core.List.{List}
+use Prim.Native.Nat.{ℕ}
+use lib.ListN.{length}
 use lib.Seq.{length-take-le}
-use Rattle.lent.proofs.Outcome.{refused, kept, accepted}
+use Rattle.lent.specs.Refusals.{firstOf, by}
+use Rattle.lent.specs.Written.{written}
+use Rattle.lent.proofs.Refusals.{refused, kept, accepted}
 use Rattle.reading.specs.Reading.{headerOf}
+use Rattle.opening.specs.Opening.{bodyTable, openedHeader, openedArea, headerPart, areaPart}
 use Rattle.opening.specs.declared.OpenAnswer.the-variants.{Opened, Refused}
 use Rattle.opening.proofs.Laws.{outer-first, inner-then, outer-passed, unscrambled-length}
 use borrow.Author.Needs.{needs}
@@ -37,68 +41,53 @@ slice-aggregate-inner-refusal : tie.Need-slice-aggregate-inner-refusal
 slice-aggregate-inner-refusal c = search needs
 
 inner-refusal-requires : tie.Need-inner-refusal-requires
-inner-refusal-requires c κs =
-    let at-args = c .before .before .before .before .before .before .before .args in
-    let at-outer-refusal = c .before .before .before .outer-refusal in
-    let at-if1 = c .before .before .if1 in
-    let at-unscrambled = c .before .unscrambled in
-    let outer = outer-passed (at-args .taps) (at-args .frame .now) (at-args .area .now) (sym (at-outer-refusal .ensures) ∙ (at-if1 .left)) in
-    ap length (at-unscrambled .ensures) ∙ unscrambled-length (at-args .taps) (at-args .frame .now) (outer .long)
+inner-refusal-requires c κs = search needs
+
+slice-aggregate-write-area : tie.Need-slice-aggregate-write-area
+slice-aggregate-write-area c = search needs
+
+write-area-requires : tie.Need-write-area-requires
+write-area-requires c κs =
+    let at-args = c .before .before .before .before .before .before .before .before .before .before .args in
+    let at-outer-refusal = c .before .before .before .before .before .before .outer-refusal in
+    let at-if1 = c .before .before .before .before .before .if1 in
+    (search needs, outer-passed (at-args .taps) (at-args .frame .now) (at-args .area .now) (sym (at-outer-refusal .ensures) ∙ (at-if1 .left)) .room)
 
 same-length-2 : tie.Need-same-length-2
 same-length-2 c = search needs
 
 returns-2 : tie.Need-returns-2
+unfolding openedArea
 returns-2 c =
-    let at-args = c .before .before .before .before .before .before .before .before .before .args in
-    let at-outer-refusal = c .before .before .before .before .before .outer-refusal in
-    let at-inner-refusal = c .before .inner-refusal in
-    let at-if1 = c .before .before .before .before .if1 in
-    let at-unscrambled = c .before .before .before .unscrambled in
+    let at-args = c .before .before .before .before .before .before .before .before .before .before .before .before .before .before .args in
+    let at-outer-refusal = c .before .before .before .before .before .before .before .before .before .before .outer-refusal in
+    let at-inner-refusal = c .before .before .before .before .before .before .inner-refusal in
+    let at-if1 = c .before .before .before .before .before .before .before .before .before .if1 in
+    let at-unscrambled = c .before .before .before .before .before .before .before .before .unscrambled in
     let at-if2 = c .if2 in
-    let e = inner-then (at-args .taps) (at-args .frame .now) (at-args .area .now) (at-outer-refusal .result) (at-inner-refusal .result) (at-outer-refusal .ensures) (at-if1 .left) ((at-inner-refusal .ensures) ∙ ap innerRefusal (at-unscrambled .ensures)) in
-    record { answer = refused _ _ _ (λ n. Refused n) e (at-if2 .taken); bytes = kept _ _ _ _ e (at-if2 .taken) }
-
-sub-write-at : tie.Need-sub-write-at
-sub-write-at c = search needs
-
-part-write-at-start : tie.Need-part-write-at-start
-part-write-at-start c = search needs
-
-part-write-at-end : tie.Need-part-write-at-end
-part-write-at-end c = search needs
-
-write-at-requires : tie.Need-write-at-requires
-write-at-requires c κs =
-    let at-args = c .before .before .before .before .before .before .before .before .before .before .before .before .args in
-    let at-outer-refusal = c .before .before .before .before .before .before .before .before .outer-refusal in
-    let at-if1 = c .before .before .before .before .before .before .before .if1 in
-    let at-unscrambled = c .before .before .before .before .before .before .unscrambled in
-    let outer = outer-passed (at-args .taps) (at-args .frame .now) (at-args .area .now) (sym (at-outer-refusal .ensures) ∙ (at-if1 .left)) in
-    let long : length (at-unscrambled .result) ≡ 2072 = ap length (at-unscrambled .ensures) ∙ unscrambled-length (at-args .taps) (at-args .frame .now) (outer .long) in
-    omega (arith, outer .room, length-take-le 1908 (drop 32 (at-unscrambled .result)) (omega (arith, length-drop 32 (at-unscrambled .result))))
+    let at-write-area = c .before .before .before .write-area in
+    let e = inner-then (at-args .taps) (at-args .frame .now) (at-args .area .now) (at-outer-refusal .result) (at-inner-refusal .result) (at-outer-refusal .ensures) (at-if1 .left) ((at-inner-refusal .ensures) ∙ ap (λ l. firstOf (bodyTable l)) (at-unscrambled .ensures)) in
+    record { answer = refused _ _ _ (λ n. Refused n) e (at-if2 .taken); bytes = (at-write-area .ensures) ∙ ap₂ (λ (n : ℕ) (l : List ℕ). by n (written (at-args .area .now) 0 (areaPart l)) (at-args .area .now)) e (at-unscrambled .ensures) }
 
 array-share-prefix-body : tie.Need-array-share-prefix-body
 array-share-prefix-body c = search needs
 
 slice-aggregate-header-of : tie.Need-slice-aggregate-header-of
 slice-aggregate-header-of c =
-    let at-args = c .before .before .before .before .before .before .before .before .before .before .before .before .before .before .before .before .args in
-    let at-outer-refusal = c .before .before .before .before .before .before .before .before .before .before .before .before .outer-refusal in
-    let at-if1 = c .before .before .before .before .before .before .before .before .before .before .before .if1 in
-    let at-unscrambled = c .before .before .before .before .before .before .before .before .before .before .unscrambled in
-    let outer = outer-passed (at-args .taps) (at-args .frame .now) (at-args .area .now) (sym (at-outer-refusal .ensures) ∙ (at-if1 .left)) in
-    let long : length (at-unscrambled .result) ≡ 2072 = ap length (at-unscrambled .ensures) ∙ unscrambled-length (at-args .taps) (at-args .frame .now) (outer .long) in
+    let at-unscrambled = c .before .before .before .before .before .before .before .before .before .unscrambled in
+    let at-args = c .before .before .before .before .before .before .before .before .before .before .before .before .before .before .before .args in
+    let at-outer-refusal = c .before .before .before .before .before .before .before .before .before .before .before .outer-refusal in
+    let at-if1 = c .before .before .before .before .before .before .before .before .before .before .if1 in
+    let long : length (at-unscrambled .result) ≡ 2072 = ap length (at-unscrambled .ensures) ∙ unscrambled-length (at-args .taps) (at-args .frame .now) (outer-passed (at-args .taps) (at-args .frame .now) (at-args .area .now) (sym (at-outer-refusal .ensures) ∙ (at-if1 .left)) .long) in
     sym (length-take-le 16 (at-unscrambled .result) (omega arith))
 
 header-of-requires : tie.Need-header-of-requires
 header-of-requires c κs =
-    let at-args = c .before .before .before .before .before .before .before .before .before .before .before .before .before .before .before .before .args in
-    let at-outer-refusal = c .before .before .before .before .before .before .before .before .before .before .before .before .outer-refusal in
-    let at-if1 = c .before .before .before .before .before .before .before .before .before .before .before .if1 in
-    let at-unscrambled = c .before .before .before .before .before .before .before .before .before .before .unscrambled in
-    let outer = outer-passed (at-args .taps) (at-args .frame .now) (at-args .area .now) (sym (at-outer-refusal .ensures) ∙ (at-if1 .left)) in
-    let long : length (at-unscrambled .result) ≡ 2072 = ap length (at-unscrambled .ensures) ∙ unscrambled-length (at-args .taps) (at-args .frame .now) (outer .long) in
+    let at-unscrambled = c .before .before .before .before .before .before .before .before .before .unscrambled in
+    let at-args = c .before .before .before .before .before .before .before .before .before .before .before .before .before .before .before .args in
+    let at-outer-refusal = c .before .before .before .before .before .before .before .before .before .before .before .outer-refusal in
+    let at-if1 = c .before .before .before .before .before .before .before .before .before .before .if1 in
+    let long : length (at-unscrambled .result) ≡ 2072 = ap length (at-unscrambled .ensures) ∙ unscrambled-length (at-args .taps) (at-args .frame .now) (outer-passed (at-args .taps) (at-args .frame .now) (at-args .area .now) (sym (at-outer-refusal .ensures) ∙ (at-if1 .left)) .long) in
     length-take-le 16 (at-unscrambled .result) (omega arith)
 
 same-length-3 : tie.Need-same-length-3
@@ -107,16 +96,16 @@ same-length-3 c = search needs
 returns-3 : tie.Need-returns-3
 unfolding openedHeader openedArea
 returns-3 c =
-    let at-args = c .before .before .before .before .before .before .before .before .before .before .before .before .before .before .before .before .before .args in
-    let at-outer-refusal = c .before .before .before .before .before .before .before .before .before .before .before .before .before .outer-refusal in
-    let at-inner-refusal = c .before .before .before .before .before .before .before .before .before .inner-refusal in
-    let at-if1 = c .before .before .before .before .before .before .before .before .before .before .before .before .if1 in
-    let at-unscrambled = c .before .before .before .before .before .before .before .before .before .before .before .unscrambled in
-    let at-if2 = c .before .before .before .before .before .before .before .before .if2 in
+    let at-args = c .before .before .before .before .before .before .before .before .before .before .before .before .before .before .before .before .args in
+    let at-outer-refusal = c .before .before .before .before .before .before .before .before .before .before .before .before .outer-refusal in
+    let at-inner-refusal = c .before .before .before .before .before .before .before .before .inner-refusal in
+    let at-if1 = c .before .before .before .before .before .before .before .before .before .before .before .if1 in
+    let at-unscrambled = c .before .before .before .before .before .before .before .before .before .before .unscrambled in
+    let at-if2 = c .before .before .if2 in
     let at-header-of = c .header-of in
-    let at-write-at = c .before .before .before .before .write-at in
-    let e = inner-then (at-args .taps) (at-args .frame .now) (at-args .area .now) (at-outer-refusal .result) (at-inner-refusal .result) (at-outer-refusal .ensures) (at-if1 .left) ((at-inner-refusal .ensures) ∙ ap innerRefusal (at-unscrambled .ensures)) in
-    record { answer = accepted _ _ _ _ _ e (at-if2 .left) (ap (λ h. Opened h) ((at-header-of .ensures) ∙ ap (λ l. headerOf (headerPart l)) (at-unscrambled .ensures))); bytes = accepted _ _ _ _ _ e (at-if2 .left) ((at-write-at .ensures) ∙ ap (λ l. written (at-args .area .now) 0 (areaPart l)) (at-unscrambled .ensures)) }
+    let at-write-area = c .before .before .before .before .before .write-area in
+    let e = inner-then (at-args .taps) (at-args .frame .now) (at-args .area .now) (at-outer-refusal .result) (at-inner-refusal .result) (at-outer-refusal .ensures) (at-if1 .left) ((at-inner-refusal .ensures) ∙ ap (λ l. firstOf (bodyTable l)) (at-unscrambled .ensures)) in
+    record { answer = accepted _ _ _ _ _ e (at-if2 .left) (ap (λ h. Opened h) ((at-header-of .ensures) ∙ ap (λ l. headerOf (headerPart l)) (at-unscrambled .ensures))); bytes = (at-write-area .ensures) ∙ ap₂ (λ (n : ℕ) (l : List ℕ). by n (written (at-args .area .now) 0 (areaPart l)) (at-args .area .now)) e (at-unscrambled .ensures) }
 
 pub open-spec : {M : Type 1} → statement M
 open-spec =
@@ -128,12 +117,10 @@ open-spec =
     unscrambled-requires
     slice-aggregate-inner-refusal
     inner-refusal-requires
+    slice-aggregate-write-area
+    write-area-requires
     same-length-2
     returns-2
-    sub-write-at
-    part-write-at-start
-    part-write-at-end
-    write-at-requires
     array-share-prefix-body
     slice-aggregate-header-of
     header-of-requires

@@ -2,7 +2,7 @@ use mathlib.Core.Path.{_≡_, refl, sym, _∙_}
 use Prim.Native.Nat.{_-_}
 use lib.ListN.{length, drop}
 use borrow.Author.Needs.{needs}
-use Rattle.packing.specs.Reading.{allZero}
+use Rattle.packing.specs.Records.{allZero}
 use Rattle.packing.proofs.Marks.{zeros-on, zeros-broken, zeros-end}
 use Rattle.packing.proofs.are_zeros.Statement.{statement}
 use Rattle.packing.proofs.are_zeros.Tie as tie

@@ -1,6 +1,6 @@
 use mathlib.Core.Path.{sym, _∙_}
 use borrow.Author.Tests.{eq-eqb, ne-eqb}
-use Rattle.packing.specs.Reading.{endAt}
+use Rattle.packing.specs.Records.{endAt}
 use borrow.Author.Needs.{needs}
 use Rattle.packing.proofs.end_at.Statement.{statement}
 use Rattle.packing.proofs.end_at.Tie as tie

@@ -3,9 +3,9 @@ use Prim.Native.Nat.{_-_, _≤_}
 use native.Mathlib.Omega.{arith}
 use lib.ListN.{length}
 use borrow.Author.Needs.{needs}
-use Rattle.link.specs.Store.{isSome}
-use Rattle.packing.specs.Reading.{readFrom, read}
-use Rattle.packing.proofs.Reading.{lies, read-whole, read-other, read-end, read-against, some-record}
+use Rattle.basics.specs.Lists.{isSome}
+use Rattle.packing.specs.Records.{readFrom, read}
+use Rattle.packing.proofs.Records.{lies, read-whole, read-other, read-end, read-against, some-record}
 use Rattle.packing.proofs.is_allowed.Statement.{statement}
 use Rattle.packing.proofs.is_allowed.Tie as tie
 

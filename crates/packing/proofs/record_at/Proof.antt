@@ -2,8 +2,8 @@ use mathlib.Core.Path.{sym, ap, _∙_}
 use mathlib.Core.Bool.{cond}
 use native.Mathlib.Omega.{arith}
 use Rattle.packing.specs.declared.Found.the-variants.{At, Against}
-use Rattle.packing.specs.Reading.{placed}
-use Rattle.packing.proofs.Reading.{at-few, at-zero, at-other}
+use Rattle.packing.specs.Records.{placed}
+use Rattle.packing.proofs.Records.{at-few, at-zero, at-other}
 use borrow.Author.Needs.{needs}
 use Rattle.packing.proofs.record_at.Statement.{statement}
 use Rattle.packing.proofs.record_at.Tie as tie

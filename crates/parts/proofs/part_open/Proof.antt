@@ -1,5 +1,4 @@
-use mathlib.Core.Path.{ap, _∙_}
-use Rattle.opening.specs.Opening.{openNumber}
+use mathlib.Core.Path.{_∙_}
 use Rattle.opening.proofs.Theorems.{open-numbers}
 use borrow.Author.Needs.{needs}
 use Rattle.parts.proofs.part_open.Statement.{statement}
@@ -18,7 +17,7 @@ returns : tie.Need-returns
 returns c =
     let at-open = c .before .before .before .«open» in
     let at-number-of = c .number-of in
-    ((at-number-of .ensures) ∙ ap openNumber (at-open .ensures .answer) ∙ open-numbers _ _, at-open .ensures .bytes)
+    ((at-number-of .ensures) ∙ open-numbers (at-open .ensures), at-open .ensures .bytes)
 
 pub part-open-spec : {M : Type 1} → statement M
 part-open-spec = tie.close (tie.spec open-requires number-of-requires same-length returns)

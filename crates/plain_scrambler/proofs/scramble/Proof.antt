@@ -6,8 +6,10 @@ use native.Mathlib.Omega.{arith}
 use lib.Dec.{lit<}
 use lib.Bits.{bitXor}
 use lib.ListN.{length, take, drop, getD, length-set}
-use Rattle.scrambler.specs.Scrambler.{scrambledFrom, scrambled}
+use Rattle.scrambler.specs.Scrambler.{scrambled}
+use Rattle.scrambler.specs.Keys.{scrambledFrom}
 use Rattle.scrambler.proofs.Stages.{after-lt}
+use Rattle.scrambler.proofs.KeyBytes.{scrambled-stages}
 use Rattle.scrambler.proofs.Steps.{bytes-turn, bytes-end}
 use borrow.Author.Needs.{needs}
 use Rattle.plain_scrambler.proofs.scramble.Statement.{statement}
@@ -22,8 +24,7 @@ abbrev μ-loop : tie.MeasureT-loop
 μ-loop taps bytes₀ stages₀ i₀ bytes stages i = length bytes₀ - i
 
 loop-holds : tie.Need-loop-holds Inv-loop μ-loop
-unfolding scrambled
-loop-holds c = (search needs, refl, lit< tt, refl)
+loop-holds c = (search needs, refl, lit< tt, sym (scrambled-stages (c .before .args .taps) (c .before .args .bytes .now)))
 
 key-byte-requires : tie.Need-key-byte-requires Inv-loop μ-loop
 key-byte-requires c κs = search needs

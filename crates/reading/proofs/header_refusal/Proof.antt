@@ -1,6 +1,6 @@
 use borrow.Author.Tests.{not-true, not-false}
 use mathlib.Core.Path.{sym, _∙_}
-use Rattle.reading.specs.Reading.{headerRefusal}
+use Rattle.lent.specs.Refusals.{firstOf}
 use borrow.Author.Needs.{needs}
 use Rattle.reading.proofs.header_refusal.Statement.{statement}
 use Rattle.reading.proofs.header_refusal.Tie as tie
@@ -15,14 +15,14 @@ rules-hold-requires : tie.Need-rules-hold-requires
 rules-hold-requires c κs = search needs
 
 returns : tie.Need-returns
-unfolding headerRefusal
+unfolding firstOf
 returns c =
     let at-sum-holds = c .before .before .before .sum-holds in
     let at-if1 = c .if1 in
     simp (sym (at-sum-holds .ensures) ∙ not-true _ (at-if1 .taken))
 
 returns-2 : tie.Need-returns-2
-unfolding headerRefusal
+unfolding firstOf
 returns-2 c =
     let at-sum-holds = c .before .before .before .before .sum-holds in
     let at-if1 = c .before .if1 in
@@ -31,7 +31,7 @@ returns-2 c =
     simp (sym (at-sum-holds .ensures) ∙ not-false _ (at-if1 .left), sym (at-reserved-ones .ensures) ∙ not-true _ (at-if2 .taken))
 
 returns-3 : tie.Need-returns-3
-unfolding headerRefusal
+unfolding firstOf
 returns-3 c =
     let at-sum-holds = c .before .before .before .before .before .sum-holds in
     let at-if1 = c .before .before .if1 in
@@ -42,7 +42,7 @@ returns-3 c =
     simp (sym (at-sum-holds .ensures) ∙ not-false _ (at-if1 .left), sym (at-reserved-ones .ensures) ∙ not-false _ (at-if2 .left), sym (at-rules-hold .ensures) ∙ at-if3 .taken)
 
 returns-4 : tie.Need-returns-4
-unfolding headerRefusal
+unfolding firstOf
 returns-4 c =
     let at-sum-holds = c .before .before .before .before .before .sum-holds in
     let at-if1 = c .before .before .if1 in

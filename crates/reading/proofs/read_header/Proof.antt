@@ -1,5 +1,5 @@
 use mathlib.Core.Path.{sym, ap, _∙_}
-use Rattle.lent.proofs.Outcome.{refused, accepted}
+use Rattle.lent.proofs.Refusals.{refused, accepted}
 use Rattle.reading.proofs.Calls.{read-length}
 use Rattle.reading.specs.declared.ReadAnswer.the-variants.{Read, Refused}
 use borrow.Author.Needs.{needs}

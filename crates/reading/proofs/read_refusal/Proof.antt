@@ -1,11 +1,12 @@
 use borrow.Author.Tests.{eq-eqb, ne-eqb}
+use Rattle.lent.specs.Refusals.{firstOf}
 use Rattle.reading.specs.Reading.{readRefusal}
 use borrow.Author.Needs.{needs}
 use Rattle.reading.proofs.read_refusal.Statement.{statement}
 use Rattle.reading.proofs.read_refusal.Tie as tie
 
 returns : tie.Need-returns
-unfolding readRefusal
+unfolding readRefusal firstOf
 returns c =
     let at-if1 = c .if1 in
     simp (ne-eqb _ _ (at-if1 .taken))
@@ -14,7 +15,7 @@ header-refusal-requires : tie.Need-header-refusal-requires
 header-refusal-requires c κs = search needs
 
 returns-2 : tie.Need-returns-2
-unfolding readRefusal
+unfolding readRefusal firstOf
 returns-2 c =
     let at-if1 = c .before .if1 in
     let at-header-refusal = c .header-refusal in

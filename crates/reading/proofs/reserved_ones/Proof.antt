@@ -1,5 +1,10 @@
+use mathlib.Core.Path.{_∙_}
 use borrow.Author.Tests.{le-leb, lt-leb}
+use native.Mathlib.Omega.{arith}
+use lib.Dec.{lit<}
+use lib.ListN.{getD}
 use Rattle.reading.specs.Reading.{reservedOnes}
+use Rattle.reading.proofs.Bits.{top-ones}
 use borrow.Author.Needs.{needs}
 use Rattle.reading.proofs.reserved_ones.Statement.{statement}
 use Rattle.reading.proofs.reserved_ones.Tie as tie
@@ -11,7 +16,9 @@ returns : tie.Need-returns
 unfolding reservedOnes
 returns c =
     let at-if1 = c .if1 in
-    simp (lt-leb _ _ (at-if1 .taken))
+    let known = c .before .shared-slice-known .given in
+    let bytes = c .before .before .args .bytes .now in
+    simp (top-ones 4 (getD bytes 4 0) (lit< tt) (omega (arith, known 4)) ∙ lt-leb _ _ (at-if1 .taken))
 
 shared-slice-read-if2 : tie.Need-shared-slice-read-if2
 shared-slice-read-if2 c = search needs
@@ -21,7 +28,12 @@ unfolding reservedOnes
 returns-2 c =
     let at-if1 = c .before .before .if1 in
     let at-if2 = c .if2 in
-    simp (le-leb _ _ (at-if1 .left), lt-leb _ _ (at-if2 .taken))
+    let known = c .before .shared-slice-known2 .given in
+    let bytes = c .before .before .before .before .args .bytes .now in
+    simp (
+      top-ones 4 (getD bytes 4 0) (lit< tt) (omega (arith, known 4)) ∙ le-leb _ _ (at-if1 .left),
+      top-ones 2 (getD bytes 10 0) (lit< tt) (omega (arith, known 10)) ∙ lt-leb _ _ (at-if2 .taken),
+    )
 
 shared-slice-read-result : tie.Need-shared-slice-read-result
 shared-slice-read-result c = search needs
@@ -31,7 +43,13 @@ unfolding reservedOnes
 returns-3 c =
     let at-if1 = c .before .before .before .if1 in
     let at-if2 = c .before .if2 in
-    simp (le-leb _ _ (at-if1 .left), le-leb _ _ (at-if2 .left))
+    let known = c .shared-slice-known3 .given in
+    let bytes = c .before .before .before .before .before .args .bytes .now in
+    simp (
+      top-ones 4 (getD bytes 4 0) (lit< tt) (omega (arith, known 4)) ∙ le-leb _ _ (at-if1 .left),
+      top-ones 2 (getD bytes 10 0) (lit< tt) (omega (arith, known 10)) ∙ le-leb _ _ (at-if2 .left),
+      top-ones 1 (getD bytes 11 0) (lit< tt) (omega (arith, known 11)),
+    )
 
 pub reserved-ones-spec : {M : Type 1} → statement M
 reserved-ones-spec =

@@ -3,10 +3,10 @@ use mathlib.Core.Path.{sym, ap, _∙_}
 use lib.Dec.{eqb}
 use lib.ListN.{getD}
 use Prim.Native.Nat.{_/_, _%_}
-use Rattle.lent.proofs.Outcome.{with-test}
+use Rattle.lent.proofs.Refusals.{with-test}
 use Rattle.fast_channel.specs.FastChannel.{payloadRule}
 use Rattle.header.specs.Header.{rxfnRule}
-use Rattle.reading.specs.Reading.{rulesHold}
+use Rattle.reading.specs.Reading.{rulesHold, fieldsOf}
 use borrow.Author.Needs.{needs}
 use Rattle.reading.proofs.rules_hold.Statement.{statement}
 use Rattle.reading.proofs.rules_hold.Tie as tie
@@ -21,7 +21,7 @@ rxfn-rule-requires : tie.Need-rxfn-rule-requires
 rxfn-rule-requires c κs = search needs
 
 returns : tie.Need-returns
-unfolding rulesHold
+unfolding rulesHold fieldsOf
 returns c =
     let at-two-at = c .before .before .two-at in
     let at-rxfn-rule = c .before .rxfn-rule in
@@ -38,7 +38,7 @@ payload-rule-requires : tie.Need-payload-rule-requires
 payload-rule-requires c κs = search needs
 
 returns-2 : tie.Need-returns-2
-unfolding rulesHold
+unfolding rulesHold fieldsOf
 returns-2 c =
     let at-args = c .before .before .before .before .before .before .before .before .args in
     let at-two-at = c .before .before .before .before .before .two-at in

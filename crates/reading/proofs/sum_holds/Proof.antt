@@ -1,8 +1,11 @@
 use mathlib.Core.Path.{sym}
 use native.Mathlib.Omega.{arith}
 use lib.Seq.{length-take-le}
-use native.Mathlib.Nat.{add-comm}
+use lib.ListN.{take}
+use Rattle.crc.specs.Crc.{crc-16}
+use Rattle.crc.proofs.Bytes.{crc-16-lt}
 use Rattle.reading.specs.Reading.{sumHolds}
+use Rattle.reading.proofs.Bits.{sum-same}
 use borrow.Author.Needs.{needs}
 use Rattle.reading.proofs.sum_holds.Statement.{statement}
 use Rattle.reading.proofs.sum_holds.Tie as tie
@@ -30,7 +33,9 @@ unfolding sumHolds
 returns c =
     let at-crc-16 = c .before .before .before .crc-16 in
     let at-two-bytes = c .two-bytes in
-    simp (at-crc-16 .ensures, at-two-bytes .ensures, add-comm)
+    let bytes = c .before .before .before .before .before .before .args .bytes .now in
+    let known = c .before .before .shared-slice-known2 .given in
+    simp (at-crc-16 .ensures, at-two-bytes .ensures) (sum-same (crc-16 (take 14 bytes)) bytes (crc-16-lt (take 14 bytes)) (omega (arith, known 14)) (omega (arith, known 15)) (omega arith))
 
 pub sum-holds-spec : {M : Type 1} → statement M
 sum-holds-spec =

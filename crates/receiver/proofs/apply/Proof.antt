@@ -1,5 +1,5 @@
 use mathlib.Core.Path.{sym, _∙_}
-use Rattle.lent.proofs.Outcome.{refused, kept}
+use Rattle.lent.proofs.Refusals.{refused, kept}
 use Rattle.receiver.specs.declared.ApplyAnswer.the-variants.{Refused}
 use Rattle.receiver.proofs.Applying.{buffers-first, held-inside, held-length, judged, join-ready, data-done, other-done}
 use borrow.Author.Needs.{needs}
@@ -121,7 +121,7 @@ returns-3 c =
     let at-join = c .before .before .before .before .before .join in
     let pass = sym (at-buffers-refusal .ensures) ∙ (at-if1 .left) in
     let k = judged (at-args .header) (at-args .area .now) (at-args .receiver) (at-args .hold .now) (at-args .list .now) pass (at-missed-before .ensures) (at-held-after .ensures) (at-area-refusal .ensures) in
-    rw (at-applied .ensures) (data-done k (at-if2 .left) (sym (at-is-data .ensures) ∙ (at-if3 .taken)) (at-join .ensures))
+    data-done k (at-if2 .left) (sym (at-is-data .ensures) ∙ (at-if3 .taken)) (at-applied .ensures) (at-join .ensures)
 
 applied-requires-2 : tie.Need-applied-requires-2
 applied-requires-2 c κs = search needs
@@ -146,7 +146,7 @@ returns-4 c =
     let at-if3 = c .before .if3 in
     let pass = sym (at-buffers-refusal .ensures) ∙ (at-if1 .left) in
     let k = judged (at-args .header) (at-args .area .now) (at-args .receiver) (at-args .hold .now) (at-args .list .now) pass (at-missed-before .ensures) (at-held-after .ensures) (at-area-refusal .ensures) in
-    rw (at-applied2 .ensures) (other-done k (at-if2 .left) (sym (at-is-data .ensures) ∙ (at-if3 .left)))
+    other-done k (at-if2 .left) (sym (at-is-data .ensures) ∙ (at-if3 .left)) (at-applied2 .ensures)
 
 pub apply-spec : {M : Type 1} → statement M
 apply-spec =

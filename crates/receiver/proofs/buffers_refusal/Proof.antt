@@ -1,46 +1,35 @@
-use borrow.Author.Tests.{le-leb, lt-leb, eq-eqb, ne-eqb}
-use Rattle.receiver.specs.Applying.{buffersRefusal}
+use mathlib.Core.Path.{sym, _∙_}
+use borrow.Author.Tests.{not-true, not-false, lt-ltb, le-ltb}
+use Rattle.lent.specs.Refusals.{firstOf}
+use borrow.Author.Needs.{needs}
 use Rattle.receiver.proofs.buffers_refusal.Statement.{statement}
 use Rattle.receiver.proofs.buffers_refusal.Tie as tie
 
+are-sized-requires : tie.Need-are-sized-requires
+are-sized-requires c κs = search needs
+
 returns : tie.Need-returns
-unfolding buffersRefusal
+unfolding firstOf
 returns c =
+    let at-are-sized = c .before .are-sized in
     let at-if1 = c .if1 in
-    simp (ne-eqb _ _ (at-if1 .taken))
+    rw (sym (at-are-sized .ensures) ∙ not-true _ (at-if1 .taken))
 
 returns-2 : tie.Need-returns-2
-unfolding buffersRefusal
+unfolding firstOf
 returns-2 c =
+    let at-are-sized = c .before .before .are-sized in
     let at-if1 = c .before .if1 in
     let at-if2 = c .if2 in
-    simp (eq-eqb _ _ (at-if1 .left), ne-eqb _ _ (at-if2 .taken))
+    rw (sym (at-are-sized .ensures) ∙ not-false _ (at-if1 .left), lt-ltb _ _ (at-if2 .taken))
 
 returns-3 : tie.Need-returns-3
-unfolding buffersRefusal
+unfolding firstOf
 returns-3 c =
-    let at-if1 = c .before .before .if1 in
-    let at-if2 = c .before .if2 in
-    let at-if3 = c .if3 in
-    simp (eq-eqb _ _ (at-if1 .left), eq-eqb _ _ (at-if2 .left), lt-leb _ _ (at-if3 .taken))
-
-returns-4 : tie.Need-returns-4
-unfolding buffersRefusal
-returns-4 c =
-    let at-if1 = c .before .before .before .if1 in
-    let at-if2 = c .before .before .if2 in
-    let at-if3 = c .before .if3 in
-    let at-if4 = c .if4 in
-    simp (eq-eqb _ _ (at-if1 .left), eq-eqb _ _ (at-if2 .left), le-leb _ _ (at-if3 .left), lt-leb _ _ (at-if4 .taken))
-
-returns-5 : tie.Need-returns-5
-unfolding buffersRefusal
-returns-5 c =
-    let at-if1 = c .before .before .before .if1 in
-    let at-if2 = c .before .before .if2 in
-    let at-if3 = c .before .if3 in
-    let at-if4 = c .if4 in
-    simp (eq-eqb _ _ (at-if1 .left), eq-eqb _ _ (at-if2 .left), le-leb _ _ (at-if3 .left), le-leb _ _ (at-if4 .left))
+    let at-are-sized = c .before .before .are-sized in
+    let at-if1 = c .before .if1 in
+    let at-if2 = c .if2 in
+    rw (sym (at-are-sized .ensures) ∙ not-false _ (at-if1 .left), le-ltb _ _ (at-if2 .left))
 
 pub buffers-refusal-spec : {M : Type 1} → statement M
-buffers-refusal-spec = tie.close (tie.spec returns returns-2 returns-3 returns-4 returns-5)
+buffers-refusal-spec = tie.close (tie.spec are-sized-requires returns returns-2 returns-3)

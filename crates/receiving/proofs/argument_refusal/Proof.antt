@@ -1,6 +1,6 @@
 use borrow.Author.Tests.{not-true, not-false}
 use mathlib.Core.Path.{sym, _∙_}
-use Rattle.receiving.specs.Receiving.{argumentRefusal}
+use Rattle.lent.specs.Refusals.{firstOf}
 use borrow.Author.Needs.{needs}
 use Rattle.receiving.proofs.argument_refusal.Statement.{statement}
 use Rattle.receiving.proofs.argument_refusal.Tie as tie
@@ -9,7 +9,7 @@ are-taps-requires : tie.Need-are-taps-requires
 are-taps-requires c κs = search needs
 
 returns : tie.Need-returns
-unfolding argumentRefusal
+unfolding firstOf
 returns c =
     let at-are-taps = c .before .are-taps in
     let at-if1 = c .if1 in
@@ -19,7 +19,7 @@ buffers-refusal-requires : tie.Need-buffers-refusal-requires
 buffers-refusal-requires c κs = search needs
 
 returns-2 : tie.Need-returns-2
-unfolding argumentRefusal
+unfolding firstOf
 returns-2 c =
     let at-are-taps = c .before .before .are-taps in
     let at-if1 = c .before .if1 in

@@ -1,5 +1,5 @@
 use mathlib.Core.Path.{sym, _∙_}
-use Rattle.lent.proofs.Outcome.{refused, kept}
+use Rattle.lent.proofs.Refusals.{refused, kept}
 use Rattle.receiving.specs.declared.ReceiveAnswer.the-variants.{Refused}
 use Rattle.receiving.proofs.Opened.{argument-first, frame-then, opened-done}
 use borrow.Author.Needs.{needs}

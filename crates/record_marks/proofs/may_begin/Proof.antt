@@ -1,18 +1,9 @@
 -- The code asks in the other order than the definition.
-use mathlib.Core.Path.{_≡_, refl}
-use mathlib.Core.Bool.{Bool, true, false, _||_}
+use mathlib.Core.Bool.{or-true, or-false}
 use borrow.Author.Tests.{eq-eqb, ne-eqb}
 use Rattle.record_marks.specs.Mark.{mayBegin}
 use Rattle.record_marks.proofs.may_begin.Statement.{statement}
 use Rattle.record_marks.proofs.may_begin.Tie as tie
-
-or-true : (a : Bool) → (a || true) ≡ true
-or-true true = refl
-or-true false = refl
-
-or-false : (a : Bool) → (a || false) ≡ a
-or-false true = refl
-or-false false = refl
 
 returns : tie.Need-returns
 unfolding mayBegin

@@ -3,7 +3,8 @@ use mathlib.Core.Bool.{Bool, _&&_}
 use Prim.Native.Nat.{ℕ}
 use lib.Dec.{eqb}
 use borrow.Author.Tests.{lt-ltb, le-ltb}
-use Rattle.scrambler.specs.Scrambler.{tapsAllowed, digit}
+use Rattle.basics.specs.Numbers.{digit}
+use Rattle.scrambler.specs.Scrambler.{tapsAllowed}
 use Rattle.scrambler.proofs.Stages.{digit-zero}
 use Rattle.scrambler.proofs.are_taps.Statement.{statement}
 use Rattle.scrambler.proofs.are_taps.Tie as tie

@@ -3,7 +3,7 @@ use mathlib.Core.Path.{refl, sym, ap, _∙_}
 use mathlib.Core.List.{List}
 use native.Mathlib.Omega.{arith}
 use Prim.Native.Nat.{ℕ, _+_}
-use Rattle.lent.proofs.Outcome.{refused, kept, accepted}
+use Rattle.lent.proofs.Refusals.{refused, kept, accepted}
 use Rattle.ring.specs.Ring.{ringWritten}
 use Rattle.sender.specs.declared.PutAnswer.the-variants.{Refused}
 use Rattle.sender.proofs.Putting.{PutPassed, put-passed, put-written}

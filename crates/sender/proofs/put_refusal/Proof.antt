@@ -1,9 +1,10 @@
--- Each return gives the number of the first condition that fails.
-use borrow.Author.Tests.{le-leb, lt-leb, eq-eqb, ne-eqb, not-true, not-false}
+-- Each return gives the number of the first row that applies.
+use borrow.Author.Tests.{le-ltb, lt-ltb, eq-eqb, ne-eqb, not-true, not-false}
 use mathlib.Core.Path.{sym, _∙_}
 use native.Mathlib.Omega.{arith}
 use Prim.Native.Nat.{_+_}
 use lib.ListN.{length}
+use Rattle.lent.specs.Refusals.{firstOf}
 use Rattle.marks.proofs.Used.{ring-passed}
 use Rattle.sender.specs.Put.{putRefusal}
 use borrow.Author.Needs.{needs}
@@ -11,7 +12,7 @@ use Rattle.sender.proofs.put_refusal.Statement.{statement}
 use Rattle.sender.proofs.put_refusal.Tie as tie
 
 returns : tie.Need-returns
-unfolding putRefusal
+unfolding putRefusal firstOf
 returns c =
     let at-if1 = c .if1 in
     simp (ne-eqb _ _ (at-if1 .taken))
@@ -20,7 +21,7 @@ is-ring-whole-requires : tie.Need-is-ring-whole-requires
 is-ring-whole-requires c κs = search needs
 
 returns-2 : tie.Need-returns-2
-unfolding putRefusal
+unfolding putRefusal firstOf
 returns-2 c =
     let at-if1 = c .before .before .if1 in
     let at-is-ring-whole = c .before .is-ring-whole in
@@ -28,23 +29,23 @@ returns-2 c =
     simp (eq-eqb _ _ (at-if1 .left), sym (at-is-ring-whole .ensures) ∙ not-true _ (at-if2 .taken))
 
 returns-3 : tie.Need-returns-3
-unfolding putRefusal
+unfolding putRefusal firstOf
 returns-3 c =
     let at-if1 = c .before .before .before .if1 in
     let at-is-ring-whole = c .before .before .is-ring-whole in
     let at-if2 = c .before .if2 in
     let at-if3 = c .if3 in
-    simp (eq-eqb _ _ (at-if1 .left), sym (at-is-ring-whole .ensures) ∙ not-false _ (at-if2 .left), lt-leb _ _ (at-if3 .taken))
+    simp (eq-eqb _ _ (at-if1 .left), sym (at-is-ring-whole .ensures) ∙ not-false _ (at-if2 .left), eq-eqb _ _ (at-if3 .taken))
 
 returns-4 : tie.Need-returns-4
-unfolding putRefusal
+unfolding putRefusal firstOf
 returns-4 c =
     let at-if1 = c .before .before .before .before .if1 in
     let at-is-ring-whole = c .before .before .before .is-ring-whole in
     let at-if2 = c .before .before .if2 in
     let at-if3 = c .before .if3 in
     let at-if4 = c .if4 in
-    simp (eq-eqb _ _ (at-if1 .left), sym (at-is-ring-whole .ensures) ∙ not-false _ (at-if2 .left), le-leb _ _ (at-if3 .left), lt-leb _ _ (at-if4 .taken))
+    simp (eq-eqb _ _ (at-if1 .left), sym (at-is-ring-whole .ensures) ∙ not-false _ (at-if2 .left), ne-eqb _ _ (at-if3 .left), lt-ltb _ _ (at-if4 .taken))
 
 sub-if5 : tie.Need-sub-if5
 sub-if5 c =
@@ -57,7 +58,7 @@ add-if5 : tie.Need-add-if5
 add-if5 c = search needs
 
 returns-5 : tie.Need-returns-5
-unfolding putRefusal
+unfolding putRefusal firstOf
 returns-5 c =
     let at-if1 = c .before .before .before .before .before .if1 in
     let at-is-ring-whole = c .before .before .before .before .is-ring-whole in
@@ -65,10 +66,10 @@ returns-5 c =
     let at-if3 = c .before .before .if3 in
     let at-if4 = c .before .if4 in
     let at-args = c .before .before .before .before .before .before .before .before .args in
-    simp (eq-eqb _ _ (at-if1 .left), sym (at-is-ring-whole .ensures) ∙ not-false _ (at-if2 .left), le-leb _ _ (at-if3 .left), le-leb _ _ (at-if4 .left), lt-leb ((at-args .used) + 2 + length (at-args .packet .now)) 32768 (omega arith))
+    simp (eq-eqb _ _ (at-if1 .left), sym (at-is-ring-whole .ensures) ∙ not-false _ (at-if2 .left), ne-eqb _ _ (at-if3 .left), le-ltb _ _ (at-if4 .left), lt-ltb 32768 ((at-args .used) + 2 + length (at-args .packet .now)) (omega arith))
 
 returns-6 : tie.Need-returns-6
-unfolding putRefusal
+unfolding putRefusal firstOf
 returns-6 c =
     let at-if1 = c .before .before .before .before .before .if1 in
     let at-is-ring-whole = c .before .before .before .before .is-ring-whole in
@@ -76,7 +77,7 @@ returns-6 c =
     let at-if3 = c .before .before .if3 in
     let at-if4 = c .before .if4 in
     let at-args = c .before .before .before .before .before .before .before .before .args in
-    simp (eq-eqb _ _ (at-if1 .left), sym (at-is-ring-whole .ensures) ∙ not-false _ (at-if2 .left), le-leb _ _ (at-if3 .left), le-leb _ _ (at-if4 .left), le-leb ((at-args .used) + 2 + length (at-args .packet .now)) 32768 (omega (arith, ring-passed _ _ _ (sym (at-is-ring-whole .ensures) ∙ not-false _ (at-if2 .left)) .most)))
+    simp (eq-eqb _ _ (at-if1 .left), sym (at-is-ring-whole .ensures) ∙ not-false _ (at-if2 .left), ne-eqb _ _ (at-if3 .left), le-ltb _ _ (at-if4 .left), le-ltb 32768 ((at-args .used) + 2 + length (at-args .packet .now)) (omega (arith, ring-passed _ _ _ (sym (at-is-ring-whole .ensures) ∙ not-false _ (at-if2 .left)) .most)))
 
 pub put-refusal-spec : {M : Type 1} → statement M
 put-refusal-spec =

@@ -5,11 +5,11 @@ use Prim.Native.Nat.{ℕ}
 use native.Mathlib.Omega.{arith}
 use Rattle.basics.proofs.Lists.{bytes-each}
 use Rattle.lent.specs.Written.{written}
-use Rattle.lent.proofs.Outcome.{refused, kept, accepted}
+use Rattle.lent.proofs.Refusals.{refused, kept, accepted}
 use Rattle.header.specs.declared.FrameKind.{FrameKind}
 use Rattle.frame.specs.Frame.{frameBytes}
 use Rattle.sending.specs.declared.NextAnswer.the-variants.{Refused}
-use Rattle.sending.proofs.Sending.{NextPassed, next-passed, kind-is, area-is, stop-within, freed-is, sent-path}
+use Rattle.sending.proofs.Sending.{NextPassed, next-passed, kind-is, stop-within, freed-is, sent-path}
 use borrow.Author.Needs.{needs}
 use Rattle.sending.proofs.next_frame.Statement.{statement}
 use Rattle.sending.proofs.next_frame.Tie as tie
@@ -63,8 +63,8 @@ build-requires c κs =
     let filled = c .before .before .before .before .before .before .before .before .before in
     (filled .fill .kept .1 .1 .1 .0, passed (filled .before .before .before) .room)
 
-next-requires : tie.Need-next-requires
-next-requires c κs = search needs
+sender-after-requires : tie.Need-sender-after-requires
+sender-after-requires c κs = search needs
 
 same-length-3 : tie.Need-same-length-3
 same-length-3 c = search needs
@@ -83,15 +83,16 @@ returns-2 c =
     let given = known .before .args in
     let number = judged .before .next-refusal .ensures in
     let p = passed judged in
+    let after = c .sender-after .ensures in
     let kind = named .kind-for .ensures ∙ kind-is p (bytes-each (given .queue .now) (λ i. omega (arith, known .slice-known .given i))) in
     let freed = freed-is p (filled .fill .ensures) (freeing .free-front .ensures) in
     record {
-      answer = accepted _ _ _ _ _ number (judged .if1 .left) (sent-path (freed .begins) (freed .count) (c .next .ensures) kind);
+      answer = accepted _ _ _ _ _ number (judged .if1 .left) (sent-path (after .0 ∙ freed .begins) (after .1 ∙ freed .count) (after .2) kind);
       bytes = accepted _ _ _ _ _ number (judged .if1 .left) (freed .bytes);
       frame = accepted _ _ _ _ _ number (judged .if1 .left)
           (built .build .ensures
           ∙ ap₂ (λ (k : FrameKind) (l : List ℕ). written (given .out .now) 0 (frameBytes (given .taps) (record { txfn = given .sender .next; kind = k; fields = given .fields }) l))
-          kind (area-is p (filled .fill .ensures)));
+          kind (filled .fill .ensures .filled));
     }
 
 pub next-frame-spec : {M : Type 1} → statement M
@@ -108,7 +109,7 @@ next-frame-spec =
     kind-for-requires
     slice-aggregate-build
     build-requires
-    next-requires
+    sender-after-requires
     same-length-3
     same-length-4
     returns-2)

@@ -1,6 +1,7 @@
--- Each return gives the number of the first condition that fails.
+-- Each return gives the number of the first row that applies.
 use borrow.Author.Tests.{le-leb, lt-leb, eq-eqb, ne-eqb, not-true, not-false}
 use mathlib.Core.Path.{sym, _∙_}
+use Rattle.lent.specs.Refusals.{firstOf}
 use Rattle.sending.specs.Next.{nextRefusal}
 use borrow.Author.Needs.{needs}
 use Rattle.sending.proofs.next_refusal.Statement.{statement}
@@ -10,14 +11,14 @@ are-taps-requires : tie.Need-are-taps-requires
 are-taps-requires c κs = search needs
 
 returns : tie.Need-returns
-unfolding nextRefusal
+unfolding nextRefusal firstOf
 returns c =
     let at-are-taps = c .before .are-taps in
     let at-if1 = c .if1 in
     simp (sym (at-are-taps .ensures) ∙ not-true _ (at-if1 .taken))
 
 returns-2 : tie.Need-returns-2
-unfolding nextRefusal
+unfolding nextRefusal firstOf
 returns-2 c =
     let at-are-taps = c .before .before .are-taps in
     let at-if1 = c .before .if1 in
@@ -25,7 +26,7 @@ returns-2 c =
     simp (sym (at-are-taps .ensures) ∙ not-false _ (at-if1 .left), ne-eqb _ _ (at-if2 .taken))
 
 returns-3 : tie.Need-returns-3
-unfolding nextRefusal
+unfolding nextRefusal firstOf
 returns-3 c =
     let at-are-taps = c .before .before .before .are-taps in
     let at-if1 = c .before .before .if1 in
@@ -37,7 +38,7 @@ is-ring-whole-requires : tie.Need-is-ring-whole-requires
 is-ring-whole-requires c κs = search needs
 
 returns-4 : tie.Need-returns-4
-unfolding nextRefusal
+unfolding nextRefusal firstOf
 returns-4 c =
     let at-are-taps = c .before .before .before .before .before .are-taps in
     let at-if1 = c .before .before .before .before .if1 in
@@ -51,7 +52,7 @@ fields-fit-requires : tie.Need-fields-fit-requires
 fields-fit-requires c κs = search needs
 
 returns-5 : tie.Need-returns-5
-unfolding nextRefusal
+unfolding nextRefusal firstOf
 returns-5 c =
     let at-are-taps = c .before .before .before .before .before .before .before .are-taps in
     let at-if1 = c .before .before .before .before .before .before .if1 in
@@ -64,7 +65,7 @@ returns-5 c =
     simp (sym (at-are-taps .ensures) ∙ not-false _ (at-if1 .left), eq-eqb _ _ (at-if2 .left), le-leb _ _ (at-if3 .left), sym (at-is-ring-whole .ensures) ∙ not-false _ (at-if4 .left), sym (at-fields-fit .ensures) ∙ (at-if5 .taken))
 
 returns-6 : tie.Need-returns-6
-unfolding nextRefusal
+unfolding nextRefusal firstOf
 returns-6 c =
     let at-are-taps = c .before .before .before .before .before .before .before .are-taps in
     let at-if1 = c .before .before .before .before .before .before .if1 in

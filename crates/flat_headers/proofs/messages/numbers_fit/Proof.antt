@@ -1,7 +1,7 @@
 use Rattle.basics.proofs.Tests.{both-true}
 use mathlib.Core.Path.{sym, ap, _∙_}
 use lib.Dec.{leb}
-use Rattle.lent.proofs.Outcome.{with-test}
+use Rattle.lent.proofs.Refusals.{with-test}
 use borrow.Author.Tests.{lt-leb, le-leb}
 use Rattle.flat_headers.specs.Messages.{numbersFit}
 use borrow.Author.Needs.{needs}

@@ -1,3 +1,4 @@
+use native.Mathlib.Nat.{div-div-eq-div-mul}
 use Rattle.frame.specs.Frame.{areaCheck}
 use borrow.Author.Needs.{needs}
 use Rattle.frame.proofs.coding.area_check.Statement.{statement}
@@ -22,7 +23,7 @@ returns : tie.Need-returns
 unfolding areaCheck
 returns c =
     let at-crc-32 = c .crc-32 in
-    simp (at-crc-32 .ensures)
+    simp (at-crc-32 .ensures, div-div-eq-div-mul)
 
 pub area-check-spec : {M : Type 1} → statement M
 area-check-spec = tie.close (tie.spec crc-32-requires cast-t5 cast-t8 cast-t11 cast-t13 returns)

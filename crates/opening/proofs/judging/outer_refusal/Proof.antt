@@ -4,7 +4,7 @@ use borrow.Author.Tests.{le-leb, lt-leb, eq-eqb, ne-eqb, not-true, not-false}
 use lib.ListN.{take}
 use lib.Seq.{length-take-le}
 use Rattle.basics.specs.Lists.{same}
-use Rattle.opening.specs.Opening.{outerRefusal}
+use Rattle.lent.specs.Refusals.{firstOf}
 use borrow.Author.Needs.{needs}
 use Rattle.opening.proofs.judging.outer_refusal.Statement.{statement}
 use Rattle.opening.proofs.judging.outer_refusal.Tie as tie
@@ -13,14 +13,14 @@ are-taps-requires : tie.Need-are-taps-requires
 are-taps-requires c κs = search needs
 
 returns : tie.Need-returns
-unfolding outerRefusal
+unfolding firstOf
 returns c =
     let at-are-taps = c .before .are-taps in
     let at-if1 = c .if1 in
     simp (sym (at-are-taps .ensures) ∙ not-true _ (at-if1 .taken))
 
 returns-2 : tie.Need-returns-2
-unfolding outerRefusal
+unfolding firstOf
 returns-2 c =
     let at-are-taps = c .before .before .are-taps in
     let at-if1 = c .before .if1 in
@@ -28,7 +28,7 @@ returns-2 c =
     simp (sym (at-are-taps .ensures) ∙ not-false _ (at-if1 .left), ne-eqb _ _ (at-if2 .taken))
 
 returns-3 : tie.Need-returns-3
-unfolding outerRefusal
+unfolding firstOf
 returns-3 c =
     let at-are-taps = c .before .before .before .are-taps in
     let at-if1 = c .before .before .if1 in
@@ -51,7 +51,7 @@ are-same-requires : tie.Need-are-same-requires
 are-same-requires c κs = search needs
 
 returns-4 : tie.Need-returns-4
-unfolding outerRefusal
+unfolding firstOf
 returns-4 c =
     let at-are-taps = c .before .before .before .before .before .before .before .before .are-taps in
     let at-if1 = c .before .before .before .before .before .before .before .if1 in
@@ -64,7 +64,7 @@ returns-4 c =
     simp (sym (at-are-taps .ensures) ∙ not-false _ (at-if1 .left), eq-eqb _ _ (at-if2 .left), le-leb _ _ (at-if3 .left), ap (same (take 9 (at-args .frame .now))) (sym (at-preamble .ensures)) ∙ sym (at-are-same .ensures) ∙ (at-if4 .taken))
 
 returns-5 : tie.Need-returns-5
-unfolding outerRefusal
+unfolding firstOf
 returns-5 c =
     let at-are-taps = c .before .before .before .before .before .before .before .before .are-taps in
     let at-if1 = c .before .before .before .before .before .before .before .if1 in

@@ -2,7 +2,8 @@
 use mathlib.Core.Path.{_≡_, sym, ap, _∙_, subst}
 use Prim.Native.Nat.{ℕ, _+_, _-_, _*_, _%_, _^_, _<_, _≤_}
 use native.Mathlib.Omega.{arith}
-use Rattle.scrambler.specs.Scrambler.{key, after}
+use Rattle.scrambler.specs.Scrambler.{after}
+use Rattle.scrambler.specs.Keys.{key}
 use Rattle.scrambler.proofs.Stages.{next-lt}
 use Rattle.scrambler.proofs.Steps.{key-turn, after-turn, key-end, after-end, room}
 use borrow.Author.Needs.{needs}

@@ -5,9 +5,10 @@ use lib.Dec.{lit<}
 use lib.ListN.{length, length-set}
 use borrow.Author.Needs.{needs}
 use native.Mathlib.Omega.{arith}
-use Rattle.scrambler.specs.Scrambler.{after, firstStages, key}
-use Rattle.scrambler.specs.Keys.{keyByte, Holds}
+use Rattle.scrambler.specs.Scrambler.{after, firstStages, keyByte}
+use Rattle.scrambler.specs.Keys.{key, Holds}
 use Rattle.scrambler.proofs.Stages.{after-lt}
+use Rattle.scrambler.proofs.KeyBytes.{key-byte}
 use Rattle.scrambler.proofs.Holds.{holds-none, holds-more, holds-less}
 use Rattle.scrambler.proofs.Words.{stages-later}
 use Rattle.scrambler.proofs.levels.first_bytes.Statement.{statement}
@@ -45,7 +46,6 @@ loop-less : tie.Need-loop-less Inv-loop μ-loop
 loop-less c = search needs
 
 loop-again : tie.Need-loop-again Inv-loop μ-loop
-unfolding keyByte
 loop-again c =
     let loop = c .before .before .before .loop in
     let taps = c .before .before .before .before .args .taps in
@@ -53,7 +53,7 @@ loop-again c =
       search needs,
       simp length-set (loop .inv .1),
       made .1 ∙ ap (after taps 8) (loop .inv .2) ∙ sym (stages-later taps (loop .i) 1),
-      holds-more (loop .inv .3) (omega arith) (made .0 ∙ ap (key taps 8) (loop .inv .2)),
+      holds-more (loop .inv .3) (omega arith) (made .0 ∙ ap (key taps 8) (loop .inv .2) ∙ sym (key-byte taps (loop .i))),
     )
 
 returns : tie.Need-returns Inv-loop μ-loop

@@ -1,0 +1,224 @@
+-- What follows from demand 2: each clause, and each way of one that says "exactly", is used to conclude something plain, so that none can go, or be halved,
+-- unseen.
+use mathlib.Core.Path.{_≡_, refl, sym, ap, _∙_}
+use mathlib.Core.Bool.{Bool, true, false, cond, false≢true}
+use mathlib.Core.Option.{none, some}
+use mathlib.Core.List.{List, [], _∷_}
+use Prim.Native.Nat.{ℕ, _+_, _*_, _/_, _%_, _≤_, _<_}
+use native.Mathlib.Nat.{mul-zero, mul-one, add-zero}
+use native.Mathlib.Omega.{arith}
+use lib.Dec.{ltb}
+use lib.ListN.{length, getD, take}
+use borrow.Author.Tests.{eq-eqb}
+use Rattle.basics.specs.Lists.{zeros, Bytes, entries}
+use Rattle.basics.specs.Numbers.{digit, number}
+use Rattle.basics.proofs.Lists.{zeros-length}
+use Rattle.lent.specs.Refusals.{firstOf}
+use Rattle.lent.proofs.Written.{written-whole}
+use Rattle.scrambler.specs.Scrambler.{tapsAllowed, sumBelow, bit, keyByte, scrambled}
+use Rattle.scrambler.proofs.Stages.{sum-ext}
+use Rattle.header.specs.Header.{headerBytes, fieldsFit}
+use Rattle.header.specs.Calls.{codeRefusal}
+use Rattle.header.specs.declared.Fields.{Fields}
+use Rattle.header.specs.declared.FrameKind.{FrameKind}
+use Rattle.header.specs.declared.FrameKind.the-variants.{Idle, Data}
+use Rattle.header.specs.declared.Header.{Header}
+use Rattle.reading.specs.Reading.{headerOf, readRefusal, readHeader}
+use Rattle.reading.specs.declared.ReadAnswer.the-variants.{Read}
+use Rattle.frame.specs.Frame.{frameBytes}
+use Rattle.opening.specs.Opening.{OpenOutcome}
+use Rattle.opening.specs.declared.OpenAnswer.{OpenAnswer}
+use Rattle.opening.specs.declared.OpenAnswer.the-variants.{Opened}
+use Rattle.link.specs.Link.{Piece, Queue, empty}
+use Rattle.link.specs.Store.{layout}
+use Rattle.marks.specs.Queue.{isRingWhole, waitingIn}
+use Rattle.packing.specs.Rules.{Allowed}
+use Rattle.packing.specs.Filling.{fillWaiting}
+use Rattle.packing.specs.Records.{read}
+use Rattle.packing.proofs.Bench.{area-allowed}
+use Rattle.sender.specs.Put.{freshSender}
+use Rattle.sender.specs.declared.Sender.{Sender}
+use Rattle.sending.specs.Next.{NextOutcome}
+use Rattle.sending.specs.declared.NextAnswer.the-variants.{Sent}
+use Rattle.receiver.specs.Applying.{freshReceiver}
+use Rattle.receiver.specs.declared.Receiver.{Receiver}
+use Rattle.receiving.specs.Receiving.{receiveRefusal}
+use Rattle.demands.specs.Cases.{idle}
+use Rattle.demands.specs.Demand2.{HoldsQueue}
+use Rattle.demands.proofs.Demand2.{demand2-holds}
+use Rattle.demands.proofs.Example.{same-bytes}
+
+zeros-bytes : (n : ℕ) → Bytes (zeros n)
+zeros-bytes = same-bytes 0 (omega arith)
+
+-- ---- the header
+
+-- the p case's header is read back from its bytes
+pub idle-back : readHeader (headerBytes idle) ≡ Read idle
+unfolding fieldsFit
+idle-back = demand2-holds .header-back idle refl
+
+-- accepted bytes that hold the same header are the same bytes; and what was read may be coded again
+pub one-coding : (a b : List ℕ) → Bytes a → Bytes b → readRefusal a ≡ 0 → readRefusal b ≡ 0 → headerOf a ≡ headerOf b → a ≡ b
+one-coding a b are-a are-b za zb e = sym (demand2-holds .header-again a are-a za .0) ∙ ap headerBytes e ∙ demand2-holds .header-again b are-b zb .0
+
+pub coded-again : (a out : List ℕ) → Bytes a → readRefusal a ≡ 0 → length out ≡ 16 → codeRefusal (headerOf a) out ≡ 0
+unfolding codeRefusal firstOf
+coded-again a out are-bytes z long = rw (eq-eqb (length out) 16 long, demand2-holds .header-again a are-bytes z .1)
+
+-- ---- the scrambler
+
+-- s(25) is the sum of the taps 0, 1 and 2, modulo 2
+pub bit-25 : (taps : ℕ) → bit taps 25 ≡ (digit 0 taps + (digit 1 taps + digit 2 taps)) % 2
+unfolding sumBelow
+bit-25 taps =
+    let bits = demand2-holds .scrambler taps in
+    bits .recurrence 0
+    ∙ ap (λ (x : ℕ). x % 2)
+    (sum-ext 25 (λ i. digit i taps * bit taps i) (λ i. digit i taps * cond (ltb i 3) 1 0) (λ i h. ap (λ (x : ℕ). digit i taps * x) (bits .first-bits i h)))
+    ∙ ap (λ (x : ℕ). x % 2) (simp (mul-zero, mul-one, add-zero))
+
+one-byte : (l : List ℕ) (x : ℕ) → length l ≡ 1 → getD l 0 0 ≡ x → l ≡ x ∷ []
+one-byte [] x long e = absurd (omega arith)
+one-byte (a ∷ []) x long e = ap (λ (b : ℕ). b ∷ []) e
+one-byte (a ∷ b ∷ l) x long e = absurd (omega arith)
+
+-- a first byte of 0 is sent as E0
+pub first-byte : (taps : ℕ) → scrambled taps (0 ∷ []) ≡ 0xE0 ∷ []
+unfolding keyByte number entries
+first-byte taps =
+    let bits = demand2-holds .scrambler taps in
+    let at = bits .first-bits in
+    one-byte (scrambled taps (0 ∷ [])) 0xE0 (bits .as-many (0 ∷ []))
+    (bits .added (0 ∷ []) 0 (omega arith)
+    ∙ rw (at 0 (omega arith), at 1 (omega arith), at 2 (omega arith), at 3 (omega arith), at 4 (omega arith), at 5 (omega arith), at 6 (omega arith), at 7 (omega arith)))
+
+-- ---- the queue
+
+-- a start past the ring's end is refused, ..
+pub start-inside : (queue : List ℕ) (used : ℕ) → Bytes queue → isRingWhole queue 32768 used ≡ true → ⊥
+start-inside queue used bytes e = let h = demand2-holds .queue-exactly queue 32768 used bytes .0 e .1 .within in omega arith
+
+nothing-waits : (queue : List ℕ) → HoldsQueue queue 0 0 empty
+unfolding layout
+nothing-waits queue = record { within = omega arith; most = omega arith; can-wait = (tt, tt); laid-out = refl }
+
+-- .. a fresh sender's queue is not, whatever its bytes, and nothing waits in it
+pub fresh-whole : (queue : List ℕ) → Bytes queue → isRingWhole queue 0 0 ≡ true
+fresh-whole queue bytes = demand2-holds .queue-exactly queue 0 0 bytes .1 (empty, nothing-waits queue)
+
+pub fresh-waits : (queue : List ℕ) → waitingIn queue 0 0 ≡ empty
+fresh-waits queue = demand2-holds .queue-waits queue 0 0 empty (nothing-waits queue)
+
+-- ---- the area
+
+-- a queue with packet AA
+abbrev oneWaiting : Queue
+oneWaiting = record { rest = none; waiting = (0xAA ∷ []) ∷ [] }
+
+-- packet AA in an area, the p case
+abbrev packetArea : List ℕ
+packetArea = 0xC0 ∷ 0x01 ∷ 0xAA ∷ zeros 1905
+
+abbrev packetPieces : List Piece
+packetPieces = record { first = true; last = true; bytes = 0xAA ∷ [] } ∷ []
+
+packet-allowed : Allowed packetArea packetPieces
+unfolding fillWaiting
+packet-allowed = area-allowed oneWaiting (tt, ((omega arith, omega arith), tt)) refl
+
+pub packet-read : read packetArea ≡ some packetPieces
+packet-read = demand2-holds .area-exactly packetArea packetPieces (omega arith, (omega arith, (omega arith, zeros-bytes 1905))) .1 packet-allowed
+
+-- zeros are no DATA area
+pub zeros-unread : (pieces : List Piece) → read (zeros 1908) ≡ some pieces → ⊥
+zeros-unread pieces e = go pieces (demand2-holds .area-exactly (zeros 1908) pieces (zeros-bytes 1908) .0 e)
+  where
+    mark-above : (first last : Bool) (n : ℕ) → 1 ≤ n → n < 2048 → 0 ≡ (cond first 32768 0 + cond last 16384 0 + n) / 256 % 256
+        → 0 ≡ (cond first 32768 0 + cond last 16384 0 + n) % 256 → ⊥
+    mark-above true true n low high x y = omega arith
+    mark-above true false n low high x y = omega arith
+    mark-above false true n low high x y = omega arith
+    mark-above false false n low high x y = omega arith
+
+    go : (pieces : List Piece) → Allowed (zeros 1908) pieces → ⊥
+    go [] a = let h = a .present in omega arith
+    go (piece ∷ pieces) a =
+        let size = a .lengths [] pieces piece refl in
+        mark-above (piece .first) (piece .last) (length (piece .bytes)) (size .0) (size .1)
+        (ap (λ (l : List ℕ). getD l 0 0) (a .laid)) (ap (λ (l : List ℕ). getD l 1 0) (a .laid))
+
+-- ---- the frame
+
+-- an IDLE frame that is built is opened to its header
+pub idle-opened : (taps : ℕ) (before : List ℕ) (answer : OpenAnswer) (after : List ℕ) → tapsAllowed taps ≡ true → 1908 ≤ length before
+    → OpenOutcome taps (frameBytes taps idle (zeros 1908)) before answer after → answer ≡ Opened idle
+unfolding fieldsFit
+idle-opened taps before answer after allowed room o =
+    demand2-holds .frame-back taps idle (zeros 1908) before answer after allowed refl (zeros-length 1908) room o .0
+
+-- two accepted frames that are opened to one header and one area are one frame
+pub one-frame : (taps : ℕ) (a b before : List ℕ) (header : Header) (after : List ℕ) → Bytes a → Bytes b → length before ≡ 1908
+    → OpenOutcome taps a before (Opened header) after → OpenOutcome taps b before (Opened header) after → a ≡ b
+one-frame taps a b before header after are-a are-b long oa ob =
+    let fa = demand2-holds .frame-again taps a before header after are-a oa in
+    let fb = demand2-holds .frame-again taps b before header after are-b ob in
+    let area-a : after ≡ fa .0 = fa .1 .3 ∙ written-whole before (fa .0) (fa .1 .2 ∙ sym long) in
+    let area-b : after ≡ fb .0 = fb .1 .3 ∙ written-whole before (fb .0) (fb .1 .2 ∙ sym long) in
+    fa .1 .0 ∙ ap (frameBytes taps header) (sym area-a ∙ area-b) ∙ sym (fb .1 .0)
+
+-- ---- next_frame
+
+-- the header of a first frame
+abbrev pub firstHeader : FrameKind → Fields → Header
+firstHeader kind fields = record { txfn = record { 0 = 0 }; kind = kind; fields = fields }
+
+module _ (taps : ℕ) (fields : Fields) (sender : Sender) (queue out : List ℕ) (kind : FrameKind) (queue′ out′ : List ℕ) where
+  -- a fresh sender sends IDLE with zeros, ..
+  pub idle-sent : NextOutcome taps fields freshSender queue out (Sent sender kind) queue′ out′
+      → (kind ≡ Idle) × (take 2081 out′ ≡ frameBytes taps (firstHeader Idle fields) (zeros 1908))
+  idle-sent o =
+      let s = demand2-holds .sends taps fields freshSender sender queue out kind queue′ out′ (omega arith) o in
+      let i = s .idle-frame (rw (fresh-waits queue) refl) in
+      (i .0, s .coded ∙ λ j. frameBytes taps (firstHeader (i .0 j) fields) (i .1 j))
+
+  -- .. and one with packet AA in its queue DATA with C0 01 AA
+  pub packet-sent : (used : ℕ) → waitingIn queue 0 used ≡ oneWaiting
+      → NextOutcome taps fields (record { start = 0; used = used; next = record { 0 = 0 } }) queue out (Sent sender kind) queue′ out′
+      → (kind ≡ Data) × (take 2081 out′ ≡ frameBytes taps (firstHeader Data fields) packetArea)
+  unfolding fillWaiting
+  packet-sent used waits o =
+      let before : Sender = record { start = 0; used = used; next = record { 0 = 0 } } in
+      let s = rw waits at (demand2-holds .sends taps fields before sender queue out kind queue′ out′ (omega arith) o) in
+      let d = s .data-frame refl in
+      (d .0, s .coded ∙ λ j. frameBytes taps (firstHeader (d .0 j) fields) (d .1 .laid j))
+
+-- ---- receive
+
+-- zeros are no frame, ..
+pub zeros-refused : (taps : ℕ) (receiver : Receiver) (hold list : List ℕ) → receiveRefusal taps (zeros 2081) receiver hold list ≡ 0 → ⊥
+unfolding frameBytes
+zeros-refused taps receiver hold list z =
+    let f = demand2-holds .accepts-exactly taps (zeros 2081) receiver hold list (zeros-bytes 2081) .0 z .1 in
+    let begins = ap (λ (l : List ℕ). getD l 0 0) (f .coded) in
+    omega arith
+
+-- .. and what a fresh sender sends is accepted by a fresh receiver
+pub idle-accepted : (taps : ℕ) (fields : Fields) (hold list : List ℕ) → tapsAllowed taps ≡ true → fieldsFit fields ≡ true → length hold ≡ 9000 → 10907 ≤ length list
+    → Bytes (frameBytes taps (firstHeader Idle fields) (zeros 1908))
+    → receiveRefusal taps (frameBytes taps (firstHeader Idle fields) (zeros 1908)) freshReceiver hold list ≡ 0
+idle-accepted taps fields hold list allowed fit hold-size list-size bytes =
+    demand2-holds .accepts-exactly taps (frameBytes taps (firstHeader Idle fields) (zeros 1908)) freshReceiver hold list bytes .1 (
+      record { allowed = allowed; hold-size = hold-size; list-size = list-size; held = omega arith },
+      record {
+        header = firstHeader Idle fields;
+        area = zeros 1908;
+        pieces = [];
+        coded = refl;
+        may-be-sent = fit;
+        area-size = zeros-length 1908;
+        data-frame = λ e. absurd (false≢true e);
+        other-frame = λ e. refl;
+        joined = refl;
+      },
+    )

@@ -1,0 +1,63 @@
+-- DEMAND 1 of the calls for C (include/taqwelim.h), as `EveryCall` has it of the library's: each answers, in one way, with the number that the library's table
+-- gives, and a refusal gives back the state that was given, zeros elsewhere, and leaves every lent byte. `every-call-for-c-holds` in proofs/CallsForC.antt is
+-- the proof.
+use mathlib.Core.Path.{_≡_}
+use mathlib.Core.List.{List, []}
+use Prim.Native.Nat.{ℕ}
+use lib.IntN.{ℤ}
+use Rattle.header.specs.Calls.{codeTable}
+use Rattle.reading.specs.Reading.{readTable}
+use Rattle.reading.specs.declared.ReadAnswer.the-variants as reading
+use Rattle.sender.specs.Put.{putTable}
+use Rattle.sender.specs.declared.PutAnswer.the-variants as putting
+use Rattle.sending.specs.Next.{nextTable}
+use Rattle.sending.specs.declared.NextAnswer.the-variants as sending
+use Rattle.receiving.specs.Receiving.{receiveTable}
+use Rattle.receiving.specs.declared.ReceiveAnswer.the-variants as receiving
+use Rattle.list.specs.Entries.{entryTable}
+use Rattle.list.specs.declared.EntryAnswer.the-variants as listing
+use Rattle.flat_headers.specs.Headers.{fieldsOf, headerOf}
+use Rattle.flat_headers.specs.declared.headers.FlatFields.{FlatFields}
+use Rattle.flat_headers.specs.declared.headers.FlatHeader.{FlatHeader}
+use Rattle.flat_states.specs.States.{receiverOf}
+use Rattle.flat_states.specs.declared.FlatReceiver.{FlatReceiver}
+use Rattle.flat_states.specs.declared.FlatSender.{FlatSender}
+use Rattle.flat.specs.Answers.{flatPut, flatNext, flatReceive, flatRead, flatEntry}
+use Rattle.flat.specs.declared.FlatPut.{FlatPut}
+use Rattle.flat.specs.declared.FlatNext.{FlatNext}
+use Rattle.flat.specs.declared.FlatReceive.{FlatReceive}
+use Rattle.flat.specs.declared.FlatRead.{FlatRead}
+use Rattle.flat.specs.declared.FlatEntry.{FlatEntry}
+use Rattle.flat.specs.declared.FlatPacket.{FlatPacket}
+use Rattle.taqwelim.specs.Calls.{FreshSenderCall, PutCall, NextCall, FreshReceiverCall, ReceiveCall, EntryCall, PacketCall, CodeCall, ReadCall, LevelCall}
+use Rattle.demands.specs.Demand1.{Demand1}
+
+-- an answer refuses with a number, which is not 0, if it is what C gets for that refusal (0 is what C gets where nothing is refused)
+abbrev pub RefusesAs : {Answer : Type 0} → (ℕ → Answer) → Answer → ℕ → Type 0
+RefusesAs refusal answer number = (number ≡ 0 → ⊥) × (answer ≡ refusal number)
+
+pub record EveryCallForC : Type 0 where
+  pub fresh-sender : Demand1 {Answer = FlatSender} {Lent = Unit {0}} (λ answer after. FreshSenderCall answer) tt (λ answer. 0) (λ answer number. ⊥) []
+  pub put : (queue : List ℕ) (sender : FlatSender) (packet : List ℕ)
+      → Demand1 {Answer = FlatPut} (PutCall queue sender packet) queue (λ answer. answer .refusal)
+      (RefusesAs (λ number. flatPut sender (putting.Refused number))) (putTable queue (sender .start) (sender .used) packet)
+  pub next-frame : (taps : ℕ) (fields : FlatFields) (sender : FlatSender) (queue out : List ℕ)
+      → Demand1 {Answer = FlatNext} {Lent = List ℕ × List ℕ} (λ answer after. NextCall taps fields sender queue out answer (after .0) (after .1)) (queue, out)
+      (λ answer. answer .refusal) (RefusesAs (λ number. flatNext sender (sending.Refused number)))
+      (nextTable taps (fieldsOf fields) (sender .start) (sender .used) queue out)
+  pub fresh-receiver : Demand1 {Answer = FlatReceiver} {Lent = Unit {0}} (λ answer after. FreshReceiverCall answer) tt (λ answer. 0) (λ answer number. ⊥) []
+  pub receive : (taps : ℕ) (frame : List ℕ) (receiver : FlatReceiver) (hold list : List ℕ)
+      → Demand1 {Answer = FlatReceive} {Lent = List ℕ × List ℕ} (λ answer after. ReceiveCall taps frame receiver hold list answer (after .0) (after .1))
+      (hold, list) (λ answer. answer .refusal) (RefusesAs (λ number. flatReceive receiver (receiving.Refused number)))
+      (receiveTable taps frame (receiverOf receiver) hold list)
+  pub entry : (list : List ℕ) (position : ℕ)
+      → Demand1 {Answer = FlatEntry} {Lent = Unit {0}} (λ answer after. EntryCall list position answer) tt (λ answer. answer .refusal)
+      (RefusesAs (λ number. flatEntry (listing.Refused number))) (entryTable list position)
+  pub packet : (list : List ℕ) (position : ℕ)
+      → Demand1 {Answer = FlatPacket} {Lent = Unit {0}} (λ answer after. PacketCall list position answer) tt (λ answer. 0) (λ answer number. ⊥) []
+  pub code-header : (header : FlatHeader) (out : List ℕ)
+      → Demand1 {Answer = ℕ} (CodeCall header out) out (λ answer. answer) (RefusesAs (λ number. number)) (codeTable (headerOf header) out)
+  pub read-header : (bytes : List ℕ)
+      → Demand1 {Answer = FlatRead} {Lent = Unit {0}} (λ answer after. ReadCall bytes answer) tt (λ answer. answer .refusal)
+      (RefusesAs (λ number. flatRead (reading.Refused number))) (readTable bytes)
+  pub level : (code : ℕ) → Demand1 {Answer = ℤ} {Lent = Unit {0}} (λ answer after. LevelCall code answer) tt (λ answer. 0) (λ answer number. ⊥) []
