@@ -9,6 +9,7 @@
     7  payload judged  payload, 1 if it is eight codewords and 0 if not
     8  taps judged     4 bytes, 1 if they are allowed and 0 if not
     9  scrambled       4 bytes of taps, bytes, the bytes scrambled
+    28 to 32           as 4, 5, 6, 7 and 9: the plain form is tried, where those try the quick one
 """
 
 from coder import codes
@@ -196,6 +197,16 @@ def scrambler_records():
         yield scrambled(taps, numbers.bytes(2072))
 
 
+PLAIN_FORM = {4: 28, 5: 29, 6: 30, 7: 31, 9: 32}
+
+
+def plain_records():
+    """The same again of the plain form."""
+    for group in [parity_records, codeword_records, payload_records, scrambler_records]:
+        for one in group():
+            yield bytes([PLAIN_FORM[one[0]]]) + one[1:]
+
+
 GROUPS = [
     check_sum_records,
     power_records,
@@ -204,4 +215,5 @@ GROUPS = [
     payload_records,
     taps_records,
     scrambler_records,
+    plain_records,
 ]

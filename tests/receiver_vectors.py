@@ -25,9 +25,7 @@ def arriving(numbers, arrivals, txfn, area, frame_type=frames.DATA, **given):
     yield record(13, BENCH_TAPS.to_bytes(4, "big"), fields(header), frame, area)
     yield arrivals.receive(BENCH_TAPS, frame, frame, **given)
     if arrivals.answer is not None:
-        yield from arrivals.read_all()
-        yield arrivals.list_in_full()
-        yield arrivals.hold_in_full()
+        yield from arrivals.all_in_full()
 
 
 def missed_records(numbers, arrivals):

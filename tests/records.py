@@ -1,12 +1,20 @@
 """The form of a record of crates/trials/stdin; messages with a byte or a bit of their own; and numbers to try with.
 
-A record is the kind, one byte, the length of the body, two bytes, and the body. Numbers stand high byte first.
+A record is the kind, one byte, the length of the body, two bytes, and the body. Numbers stand high byte first. The
+kind of a planted record is 64 more: what it expects is wrong, and it has to come out as different.
 """
+
+PLANTED = 64
 
 
 def record(kind, *parts):
     body = b"".join(parts)
     return bytes([kind]) + len(body).to_bytes(2, "big") + body
+
+
+def planted(one, amended=lambda body: body):
+    """A record with its body amended, or one that is wrong as it is, which has to come out as different."""
+    return record(PLANTED + one[0], amended(one[3:]))
 
 
 def one_bit(length, place):

@@ -6,16 +6,18 @@
 The file is the number of records in four bytes, and then the records, in the form of records.py. Which kinds there are,
 and what their bodies hold, stands at the head of the files that make them: code_vectors.py, header_vectors.py,
 frame_vectors.py, sender_session.py and receiver_session.py. Each group has a seed of its own, so that a group can be
-added and the others stay as they are.
+added and the others stay as they are. Behind all others stand the planted records, which are wrong.
 """
 
 import sys
 from pathlib import Path
 
+import apply_vectors
 import code_vectors
 import coder
 import frame_vectors
 import header_vectors
+import planted_vectors
 import receiver_vectors
 import ring_vectors
 import sender_vectors
@@ -24,8 +26,8 @@ VECTORS = Path(__file__).resolve().parent.parent / "crates" / "trials" / "stdin"
 
 
 def vectors():
-    files = [code_vectors, header_vectors, frame_vectors, sender_vectors, ring_vectors, receiver_vectors]
-    records = [one for file in files for group in file.GROUPS for one in group()]
+    files = [code_vectors, header_vectors, frame_vectors, sender_vectors, ring_vectors, receiver_vectors, apply_vectors]
+    records = [one for file in [*files, planted_vectors] for group in file.GROUPS for one in group()]
     return records, len(records).to_bytes(4, "big") + b"".join(records)
 
 

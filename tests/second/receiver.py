@@ -100,12 +100,9 @@ def accept(header, area, receiver, hold, output):
     return answer, after, hold, listed + bytes(output[len(listed):])
 
 
-def apply(header, area, receiver, hold, output):
-    """An opened frame taken: the number, the answer, and state, hold and output after the call."""
-    refusals = buffer_refusals(receiver, hold, output)
-    if len(area) != codes.AREA:
-        refusals.append(2)
-    # What buffers and states hold is only asked where they are sound; 14 and 15 are above 2 and 3 in any case.
+def concluded(refusals, header, area, receiver, hold, output):
+    """The lowest of the refusals, or what the area does: the number, the answer, and state, hold and output after the call."""
+    # What buffers and states hold is only asked where they are sound; 14 and 15 are above the others in any case.
     if not refusals:
         refusals = area_refusals(header, area, receiver)
     if refusals:
@@ -113,17 +110,21 @@ def apply(header, area, receiver, hold, output):
     return (0,) + accept(header, area, receiver, hold, output)
 
 
+def apply(header, area, receiver, hold, output):
+    """An opened frame taken."""
+    refusals = buffer_refusals(receiver, hold, output)
+    if len(area) != codes.AREA:
+        refusals.append(2)
+    return concluded(refusals, header, area, receiver, hold, output)
+
+
 def receive(taps, frame, receiver, hold, output):
-    """A frame from the wire taken: the same five, the lowest number over all arguments (R1)."""
+    """A frame from the wire taken; the lowest number counts over all arguments (R1)."""
     refusals = buffer_refusals(receiver, hold, output)
     opened, header, area = frames.open_frame(taps, frame, codes.AREA)
     if opened != 0:
         refusals.append(opened)
-    if not refusals:
-        refusals = area_refusals(header, area, receiver)
-    if refusals:
-        return min(refusals), None, receiver, bytes(hold), bytes(output)
-    return (0,) + accept(header, area, receiver, hold, output)
+    return concluded(refusals, header, area, receiver, hold, output)
 
 
 # Reading the list (01, "Reading the list"; R26)
