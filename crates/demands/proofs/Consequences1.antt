@@ -162,6 +162,10 @@ never-16 taps frame receiver hold list hold′ list′ o =
     let e : 16 ≡ firstOf table = every-call-holds .receive taps frame receiver hold list .number (receiving.Refused 16) (hold′, list′) o in
     false≢true (subst (λ (n : ℕ). among n (numbersOf table) ≡ true) (sym e) (first-among table (λ z. omega arith)))
 
+-- no put refuses with 0 (`refusal`): a refusal has a number of the table
+pub never-0 : (queue : List ℕ) (sender : Sender) (packet after : List ℕ) → PutOutcome queue sender packet (putting.Refused 0) after → ⊥
+never-0 queue sender packet after o = every-call-holds .put queue sender packet .refusal (putting.Refused 0) 0 after o refl .0 refl
+
 -- ---- the calls for C: the state comes back as it was given, with zeros beside it
 
 abbrev pub untouched : FlatHeader → FlatReceiver → ℕ → FlatReceive
