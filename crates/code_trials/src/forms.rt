@@ -1,4 +1,5 @@
 // The two forms of the code of a word, of the code of a payload and of the scrambler: the quick one, which the link uses, and the plain one beside it.
+use reed_solomon::interleaving;
 ghost use mathlib.Core.Path.{_≡_};
 ghost use Prim.Native.Nat.{_≤_};
 ghost use lib.ListN.{length};

@@ -1,4 +1,5 @@
-// The kinds of record that try the codes.
+// The kinds of record that try the codes, and the check values that are published of them.
 mod codes;
 mod forms;
 pub mod kinds;
+pub mod published;

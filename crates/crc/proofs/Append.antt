@@ -9,8 +9,8 @@ use lib.ListN.{length}
 use Rattle.basics.specs.Numbers.{bits}
 use Rattle.basics.specs.Lists.{zeros}
 use Rattle.basics.proofs.Lists.{zeros-length}
-use Rattle.field.specs.Field.{twice}
-use Rattle.field.proofs.Double.{twice-lt}
+use Rattle.division.specs.Doubling.{twice}
+use Rattle.division.proofs.Doubling.{twice-lt}
 use Rattle.division.proofs.Register.{plus-zeros}
 use Rattle.crc.specs.Crc.{messageBits, crc32Polynomial, crc-32}
 use Rattle.crc.specs.Register.{bitSteps, doubled, raised}

@@ -15,8 +15,8 @@ use Rattle.basics.specs.Numbers.{bits, number}
 use Rattle.basics.specs.Lists.{zeros}
 use Rattle.basics.proofs.Xor.{xor-assoc, xor-shl}
 use Rattle.basics.proofs.Lists.{zeros-length}
-use Rattle.field.specs.Field.{twice}
-use Rattle.field.proofs.Double.{twice-xor, twice-lt}
+use Rattle.division.specs.Doubling.{twice}
+use Rattle.division.proofs.Doubling.{twice-xor, twice-lt}
 use Rattle.division.proofs.Register.{check-feed}
 use Rattle.crc.specs.Crc.{messageBits, crc, crc16Polynomial, crc-16}
 use Rattle.crc.specs.Register.{bitStep, bitSteps, byteStep, doubled}

@@ -9,8 +9,8 @@ use lib.Bits.{bitXor, xor-shr, xor-mod}
 use lib.ListN.{length, length-append}
 use Rattle.basics.specs.Numbers.{bits}
 use Rattle.basics.proofs.Xor.{xor-shl, xor-cross}
-use Rattle.field.specs.Field.{twice}
-use Rattle.field.proofs.Double.{twice-xor}
+use Rattle.division.specs.Doubling.{twice}
+use Rattle.division.proofs.Doubling.{twice-xor}
 use Rattle.division.specs.Division.{plus}
 use Rattle.division.proofs.Linear.{plus-append}
 use Rattle.crc.specs.Crc.{messageBits, crc}

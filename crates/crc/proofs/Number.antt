@@ -11,9 +11,9 @@ use lib.Pow.{pow-pos, mod-pow-add, high, split, shl-lt}
 use lib.Bits.{bitXor, xor-lt, xor-block, xor-comm, xor-self, xor-zero-r}
 use lib.ListN.{length, length-append}
 use Rattle.basics.specs.Numbers.{bits, number}
-use Rattle.field.specs.Field.{twice}
+use Rattle.division.specs.Doubling.{twice}
 use Rattle.basics.proofs.Xor.{bit-mul-lt}
-use Rattle.field.proofs.Double.{twice-lt}
+use Rattle.division.proofs.Doubling.{twice-lt}
 use Rattle.division.specs.Division.{plus, scale}
 use Rattle.division.specs.Register.{step, feed}
 use Rattle.division.proofs.Register.{plus-length, scale-length, step-length}

@@ -6,9 +6,9 @@ use native.Mathlib.Nat.{le-refl, lt-trans, le-of-suc-le-suc, pow-suc}
 use lib.Pow.{pow-pos, pow-lt}
 use lib.Bits.{bitXor, xor-lt}
 use Rattle.basics.proofs.Xor.{xor-cross, xor-zero-eq}
-use Rattle.field.specs.Field.{twice}
-use Rattle.field.proofs.Basis.{agree}
-use Rattle.field.proofs.Double.{twice-xor}
+use Rattle.division.specs.Doubling.{twice}
+use Rattle.division.proofs.Basis.{agree}
+use Rattle.division.proofs.Doubling.{twice-xor}
 use Rattle.crc.specs.Crc.{crc32Polynomial}
 use Rattle.crc.specs.Register.{doubled, raised}
 use Rattle.crc.proofs.Bytes.{twice-small}

@@ -6,7 +6,7 @@ use native.Mathlib.Nat.{mul-assoc}
 use native.Mathlib.Omega.{arith}
 use lib.Bits.{bitXor}
 use Rattle.basics.proofs.Xor.{xor-shl}
-use Rattle.field.specs.Field.{twice}
+use Rattle.division.specs.Doubling.{twice}
 use Rattle.crc.specs.Crc.{messageBits, crc, crc16Polynomial, crc-16}
 use Rattle.crc.specs.Register.{bitStep, bitSteps}
 use Rattle.crc.proofs.Number.{bit-step}

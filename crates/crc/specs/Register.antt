@@ -5,7 +5,7 @@ use mathlib.Core.List.{List, [], _∷_}
 use Prim.Native.Nat.{ℕ, zero, suc, _+_, _*_, _-_, _^_}
 use lib.Bits.{bitXor}
 use Rattle.basics.specs.Numbers.{bits, lowFirst}
-use Rattle.field.specs.Field.{twice}
+use Rattle.division.specs.Doubling.{twice}
 use Rattle.crc.specs.Crc.{crc32Polynomial, crc-32}
 
 -- a bit is added at the top of the register, and the whole is doubled modulo the polynomial

@@ -7,7 +7,7 @@ ghost use mathlib.Core.Path.{_≡_};
 ghost use Prim.Native.Nat.{_+_, _/_, _^_, _≤_, _<_};
 ghost use lib.Bits.{bitXor};
 ghost use lib.ListN.{length, drop};
-ghost use Rattle.field.specs.Field.{twice};
+ghost use Rattle.division.specs.Doubling.{twice};
 ghost use Rattle.crc.specs.Crc.{crc, crc-16, crc-32};
 ghost use Rattle.crc.specs.Register.{byteStep, numberSum};
 

@@ -3,15 +3,17 @@ use mathlib.Core.Path.{_≡_, refl, sym, ap, _∙_}
 use mathlib.Core.List.{List}
 use Prim.Native.Nat.{ℕ}
 use Rattle.lent.specs.Refusals.{Row}
-use Rattle.header.specs.Calls.{codeNumber}
 use Rattle.header.specs.declared.CodeAnswer.the-variants as coding
-use Rattle.reading.specs.Reading.{readNumber, readHeader}
-use Rattle.reading.specs.declared.ReadAnswer.{ReadAnswer}
-use Rattle.reading.specs.declared.ReadAnswer.the-variants as reading
-use Rattle.level.specs.Level.{levelOf}
+use Rattle.header_reading.specs.Reading.{readNumber, readHeader}
+use Rattle.header_reading.specs.declared.ReadAnswer.{ReadAnswer}
+use Rattle.header_reading.specs.declared.ReadAnswer.the-variants as reading
+use Rattle.fast_channel.specs.Level.{levelOf}
 use Rattle.sender.specs.Put.{freshSender, putNumber}
+use Rattle.sender.specs.Waiting.{waitingNumber, waitingAnswer}
 use Rattle.sender.specs.declared.PutAnswer.{PutAnswer}
 use Rattle.sender.specs.declared.PutAnswer.the-variants as putting
+use Rattle.sender.specs.declared.WaitingAnswer.{WaitingAnswer}
+use Rattle.sender.specs.declared.WaitingAnswer.the-variants as counting
 use Rattle.sending.specs.Next.{nextNumber}
 use Rattle.sending.specs.declared.NextAnswer.{NextAnswer}
 use Rattle.sending.specs.declared.NextAnswer.the-variants as sending
@@ -22,12 +24,13 @@ use Rattle.receiving.specs.declared.ReceiveAnswer.the-variants as receiving
 use Rattle.list.specs.Entries.{entryNumber, entryAnswer}
 use Rattle.list.specs.declared.EntryAnswer.{EntryAnswer}
 use Rattle.list.specs.declared.EntryAnswer.the-variants as listing
-use Rattle.flat_headers.specs.Headers.{fieldsOf, headerOf}
-use Rattle.flat_states.specs.States.{senderOf, flatSender, receiverOf, flatReceiver}
-use Rattle.flat_states.specs.declared.FlatReceiver.{FlatReceiver}
-use Rattle.flat_states.specs.declared.FlatSender.{FlatSender}
-use Rattle.flat.specs.Answers.{flatPut, flatNext, flatReceive, flatRead, flatEntry, flatPacket}
-use Rattle.taqwelim.specs.Calls.{FreshSenderCall, PutCall, NextCall, FreshReceiverCall, ReceiveCall, EntryCall, PacketCall, CodeCall, ReadCall, LevelCall}
+use Rattle.flat.specs.Headers.{fieldsOf, headerOf}
+use Rattle.flat.specs.States.{senderOf, flatSender, receiverOf, flatReceiver}
+use Rattle.flat.specs.declared.states.FlatReceiver.{FlatReceiver}
+use Rattle.flat.specs.declared.states.FlatSender.{FlatSender}
+use Rattle.flat.specs.Answers.{flatPut, flatWaiting, flatNext, flatReceive, flatCode, flatRead, flatEntry, flatPacket}
+use Rattle.taqwelim.specs.Calls.{FreshSenderCall, PutCall, WaitingCall, NextCall, FreshReceiverCall, ReceiveCall, EntryCall, PacketCall}
+use Rattle.taqwelim.specs.Calls.{CodeCall, ReadCall, LevelCall}
 use Rattle.demands.specs.Demand1.{Demand1}
 use Rattle.demands.specs.CallsForC.{RefusesAs, EveryCallForC}
 use Rattle.demands.proofs.Outcomes.{never-refuses}
@@ -69,6 +72,10 @@ put-number : (given : FlatSender) (answer : PutAnswer) → flatPut given answer 
 put-number given (putting.Taken sender) = refl
 put-number given (putting.Refused number) = refl
 
+waiting-number : (answer : WaitingAnswer) → flatWaiting answer .refusal ≡ waitingNumber answer
+waiting-number (counting.Waiting packets bytes) = refl
+waiting-number (counting.Refused number) = refl
+
 next-number : (given : FlatSender) (answer : NextAnswer) → flatNext given answer .refusal ≡ nextNumber answer
 next-number given (sending.Sent sender kind) = refl
 next-number given (sending.Refused number) = refl
@@ -90,8 +97,12 @@ pub every-call-for-c-holds : EveryCallForC
 every-call-for-c-holds = record {
   fresh-sender = never-refuses (λ answer after. FreshSenderCall answer) (flatSender freshSender) tt refl (λ r after o. (o, refl));
   put = λ queue sender packet.
-      flat-holds (λ n. putting.Refused n) (every-call-holds .put queue (senderOf sender) packet) (λ n. refl) (flatPut sender) (λ r. r .refusal) (put-number sender)
+      flat-holds (λ n. putting.Refused n) (every-call-holds .put queue (senderOf sender) packet) (λ n. refl)
+      (flatPut sender) (λ r. r .refusal) (put-number sender)
       (PutCall queue sender packet) (λ answer after o. record { answer = answer; outcome = o; flat = refl }) (λ r after o. (o .answer, (o .outcome, o .flat)));
+  waiting = λ queue sender.
+      flat-holds (λ n. counting.Refused n) (every-call-holds .waiting queue (senderOf sender)) (λ n. refl) flatWaiting (λ r. r .refusal) waiting-number
+      (λ answer after. WaitingCall queue sender answer) (λ answer after o. ap flatWaiting o) (λ r after o. (waitingAnswer queue (senderOf sender), (refl, o)));
   next-frame = λ taps fields sender queue out.
       flat-holds (λ n. sending.Refused n) (every-call-holds .next-frame taps (fieldsOf fields) (senderOf sender) queue out) (λ n. refl) (flatNext sender)
       (λ r. r .refusal) (next-number sender) (λ answer after. NextCall taps fields sender queue out answer (after .0) (after .1))
@@ -107,7 +118,7 @@ every-call-for-c-holds = record {
   packet = λ list position.
       never-refuses (λ answer after. PacketCall list position answer) (flatPacket (entryAnswer list position)) tt refl (λ r after o. (o, refl));
   code-header = λ header out.
-      flat-holds (λ n. coding.Refused n) (every-call-holds .code-header (headerOf header) out) (λ n. refl) codeNumber (λ r. r) (λ answer. refl)
+      flat-holds (λ n. coding.Refused n) (every-call-holds .code-header (headerOf header) out) (λ n. refl) flatCode (λ r. r .refusal) (λ answer. refl)
       (CodeCall header out) (λ answer after o. record { answer = answer; outcome = o; flat = refl }) (λ r after o. (o .answer, (o .outcome, o .flat)));
   read-header = λ bytes.
       flat-holds (λ n. reading.Refused n) (every-call-holds .read-header bytes) (λ n. refl) flatRead (λ r. r .refusal) read-number

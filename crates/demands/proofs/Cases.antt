@@ -8,18 +8,20 @@ use Rattle.basics.specs.Lists.{entries}
 use Rattle.basics.specs.Numbers.{bits, number}
 use Rattle.crc.specs.Crc.{messageBits, crc, crc-16, crc-32}
 use Rattle.division.specs.Division.{plus, scale, remainder, check}
-use Rattle.field.specs.Field.{twice, double, power}
+use Rattle.division.specs.Doubling.{twice}
+use Rattle.field.specs.Field.{double, power}
 use Rattle.scrambler.specs.Scrambler.{scrambled, withKey, keyByte, bit, after, next, newBit, sumBelow}
 use Rattle.scrambler.proofs.Recurrence.{first-bytes}
 use Rattle.header.specs.Header.{fieldBytes}
 use Rattle.packing.specs.Filling.{fillWaiting}
 use Rattle.sending.specs.Next.{areaFor}
-use Rattle.level.specs.Level.{levelOf}
+use Rattle.fast_channel.specs.Level.{levelOf}
 use Rattle.frame.specs.Frame.{preamble}
 use Rattle.demands.specs.Cases.{Definition, Case, definition, cases, Hold}
 
 pub cases-hold : Hold cases
-unfolding cases crc-16 crc-32 crc check remainder plus scale number messageBits bits power double twice ones scrambled withKey keyByte entries bit after next newBit sumBelow fieldBytes fillWaiting
+unfolding cases crc-16 crc-32 crc check remainder plus scale number messageBits bits power double twice ones
+    scrambled withKey keyByte entries bit after next newBit sumBelow fieldBytes fillWaiting
 cases-hold =
     (refl, (refl, (refl, (refl, (refl, (refl, (refl, (refl, (fun-ext first-bytes, (refl, (refl, (refl, (refl, (refl, (refl, tt)))))))))))))))
 

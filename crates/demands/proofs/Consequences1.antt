@@ -18,18 +18,21 @@ use Rattle.header.specs.declared.Fields.{Fields}
 use Rattle.header.specs.declared.Header.{Header}
 use Rattle.header.specs.declared.CodeAnswer.{CodeAnswer}
 use Rattle.header.specs.declared.CodeAnswer.the-variants as coding
-use Rattle.reading.specs.Reading.{readTable, ReadHeaderOutcome}
-use Rattle.reading.specs.declared.ReadAnswer.{ReadAnswer}
-use Rattle.reading.specs.declared.ReadAnswer.the-variants as reading
-use Rattle.level.specs.Level.{LevelOutcome}
+use Rattle.header_reading.specs.Reading.{readTable, ReadHeaderOutcome}
+use Rattle.header_reading.specs.declared.ReadAnswer.{ReadAnswer}
+use Rattle.header_reading.specs.declared.ReadAnswer.the-variants as reading
+use Rattle.fast_channel.specs.Level.{LevelOutcome}
 use Rattle.opening.specs.Opening.{openTable, OpenOutcome}
 use Rattle.opening.specs.declared.OpenAnswer.{OpenAnswer}
 use Rattle.opening.specs.declared.OpenAnswer.the-variants as opening
 use Rattle.marks.specs.Queue.{isRingWhole}
 use Rattle.sender.specs.Put.{putTable, putNumber, PutOutcome}
+use Rattle.sender.specs.Waiting.{waitingTable, WaitingOutcome}
 use Rattle.sender.specs.declared.Sender.{Sender}
 use Rattle.sender.specs.declared.PutAnswer.{PutAnswer}
 use Rattle.sender.specs.declared.PutAnswer.the-variants as putting
+use Rattle.sender.specs.declared.WaitingAnswer.{WaitingAnswer}
+use Rattle.sender.specs.declared.WaitingAnswer.the-variants as counting
 use Rattle.sending.specs.Next.{nextTable, NextOutcome}
 use Rattle.sending.specs.declared.NextAnswer.{NextAnswer}
 use Rattle.sending.specs.declared.NextAnswer.the-variants as sending
@@ -43,18 +46,21 @@ use Rattle.receiving.specs.declared.ReceiveAnswer.the-variants as receiving
 use Rattle.list.specs.Entries.{entryTable, lengthAt, packetAt, placeAt, EntryOutcome, PacketOutcome}
 use Rattle.list.specs.declared.EntryAnswer.{EntryAnswer}
 use Rattle.list.specs.declared.EntryAnswer.the-variants as listing
-use Rattle.flat_headers.specs.Headers.{noHeader}
-use Rattle.flat_headers.specs.declared.headers.FlatFields.{FlatFields}
-use Rattle.flat_headers.specs.declared.headers.FlatHeader.{FlatHeader}
-use Rattle.flat_states.specs.declared.FlatReceiver.{FlatReceiver}
-use Rattle.flat_states.specs.declared.FlatSender.{FlatSender}
+use Rattle.flat.specs.Headers.{noHeader}
+use Rattle.flat.specs.declared.headers.FlatFields.{FlatFields}
+use Rattle.flat.specs.declared.headers.FlatHeader.{FlatHeader}
+use Rattle.flat.specs.declared.states.FlatReceiver.{FlatReceiver}
+use Rattle.flat.specs.declared.states.FlatSender.{FlatSender}
 use Rattle.flat.specs.declared.FlatPut.{FlatPut}
+use Rattle.flat.specs.declared.FlatWaiting.{FlatWaiting}
 use Rattle.flat.specs.declared.FlatNext.{FlatNext}
 use Rattle.flat.specs.declared.FlatReceive.{FlatReceive}
+use Rattle.flat.specs.declared.FlatCode.{FlatCode}
 use Rattle.flat.specs.declared.FlatRead.{FlatRead}
 use Rattle.flat.specs.declared.FlatEntry.{FlatEntry}
 use Rattle.flat.specs.declared.FlatPacket.{FlatPacket}
-use Rattle.taqwelim.specs.Calls.{FreshSenderCall, PutCall, NextCall, FreshReceiverCall, ReceiveCall, EntryCall, PacketCall, CodeCall, ReadCall, LevelCall}
+use Rattle.taqwelim.specs.Calls.{FreshSenderCall, PutCall, WaitingCall, NextCall, FreshReceiverCall, ReceiveCall, EntryCall, PacketCall}
+use Rattle.taqwelim.specs.Calls.{CodeCall, ReadCall, LevelCall}
 use Rattle.demands.specs.Demand1.{Demand1}
 use Rattle.demands.proofs.Outcomes.{among, first-among}
 use Rattle.demands.proofs.Demand1.{every-call-holds}
@@ -74,7 +80,11 @@ module _ {A B : Type 0} {Meets : A → B → Type 0} {before : B} {numberOf : A 
 pub numbers-of-put : (queue : List ℕ) (start used : ℕ) (packet : List ℕ) → numbersOf (putTable queue start used packet) ≡ 2 ∷ 3 ∷ 4 ∷ 5 ∷ []
 numbers-of-put queue start used packet = refl
 
-pub numbers-of-next : (taps : ℕ) (fields : Fields) (start used : ℕ) (queue out : List ℕ) → numbersOf (nextTable taps fields start used queue out) ≡ 1 ∷ 2 ∷ 3 ∷ 6 ∷ []
+pub numbers-of-waiting : (queue : List ℕ) (start used : ℕ) → numbersOf (waitingTable queue start used) ≡ 2 ∷ 3 ∷ []
+numbers-of-waiting queue start used = refl
+
+pub numbers-of-next : (taps : ℕ) (fields : Fields) (start used : ℕ) (queue out : List ℕ)
+    → numbersOf (nextTable taps fields start used queue out) ≡ 1 ∷ 2 ∷ 3 ∷ 6 ∷ []
 numbers-of-next taps fields start used queue out = refl
 
 pub numbers-of-receive : (taps : ℕ) (frame : List ℕ) (receiver : Receiver) (hold list : List ℕ)
@@ -104,6 +114,10 @@ pub put-refused : (sender : Sender) (packet : List ℕ) (answer : PutAnswer) (af
 unfolding firstOf
 put-refused sender packet = first-given (every-call-holds .put [] sender packet) 2 refl (λ z. omega arith)
 
+pub waiting-refused : (sender : Sender) (answer : WaitingAnswer) → WaitingOutcome [] sender answer → answer ≡ counting.Refused 2
+unfolding firstOf
+waiting-refused sender answer o = first-given (every-call-holds .waiting [] sender) 2 refl (λ z. omega arith) answer tt o .0
+
 pub next-refused : (fields : Fields) (sender : Sender) (queue out : List ℕ) (answer : NextAnswer) (after : List ℕ × List ℕ)
     → NextOutcome 0 fields sender queue out answer (after .0) (after .1) → (answer ≡ sending.Refused 1) × (after ≡ (queue, out))
 unfolding firstOf tapsAllowed
@@ -114,7 +128,8 @@ pub receive-refused : (frame : List ℕ) (receiver : Receiver) (hold list : List
 unfolding firstOf tapsAllowed
 receive-refused frame receiver hold list = first-given (every-call-holds .receive 0 frame receiver hold list) 1 refl (λ z. omega arith)
 
-pub open-refused : (frame area : List ℕ) (answer : OpenAnswer) (after : List ℕ) → OpenOutcome 0 frame area answer after → (answer ≡ opening.Refused 1) × (after ≡ area)
+pub open-refused : (frame area : List ℕ) (answer : OpenAnswer) (after : List ℕ)
+    → OpenOutcome 0 frame area answer after → (answer ≡ opening.Refused 1) × (after ≡ area)
 unfolding firstOf tapsAllowed
 open-refused frame area = first-given (every-call-holds .open-frame 0 frame area) 1 refl (λ z. omega arith)
 
@@ -123,7 +138,8 @@ pub apply-refused : (header : Header) (receiver : Receiver) (hold list : List �
 unfolding firstOf
 apply-refused header receiver hold list = first-given (every-call-holds .apply header [] receiver hold list) 2 refl (λ z. omega arith)
 
-pub code-refused : (header : Header) (answer : CodeAnswer) (after : List ℕ) → CodeHeaderOutcome header [] answer after → (answer ≡ coding.Refused 2) × (after ≡ [])
+pub code-refused : (header : Header) (answer : CodeAnswer) (after : List ℕ)
+    → CodeHeaderOutcome header [] answer after → (answer ≡ coding.Refused 2) × (after ≡ [])
 unfolding firstOf
 code-refused header = first-given (every-call-holds .code-header header []) 2 refl (λ z. omega arith)
 
@@ -140,7 +156,8 @@ pub packet-none : (from : ℕ × ℕ) (part : List ℕ) (at : ℕ × ℕ) → Pa
 unfolding packetAt lengthAt
 packet-none from part at o =
     ap (λ (answer : List ℕ × (ℕ × ℕ)). answer .0)
-    (every-call-holds .packet [] from 0 .one-outcome (part, at) ([], (from .0, placeAt [] 0 + from .1)) tt tt o (record { bytes = refl; block = refl; place = refl }) .0)
+    (every-call-holds .packet [] from 0 .one-outcome (part, at) ([], (from .0, placeAt [] 0 + from .1)) tt tt o
+    (record { bytes = refl; block = refl; place = refl }) .0)
 
 pub level-read : (r : ℤ) → LevelOutcome 255 r → r ≡ negℤ (pos 6396930)
 level-read r o = every-call-holds .level 255 .one-outcome r (negℤ (pos 6396930)) tt tt o refl .0
@@ -176,8 +193,12 @@ pub c-put-refused : (sender : FlatSender) (packet : List ℕ) (r : FlatPut) (aft
 unfolding firstOf
 c-put-refused sender packet r after o = first-given (every-call-for-c-holds .put [] sender packet) 2 refl (λ z. omega arith) r after o .0 .1
 
-pub c-next-refused : (fields : FlatFields) (sender : FlatSender) (queue out : List ℕ) (r : FlatNext) (queue′ out′ : List ℕ) → NextCall 0 fields sender queue out r queue′ out′
-    → r ≡ record { sender = sender; kind = 0; refusal = 1 }
+pub c-waiting-refused : (sender : FlatSender) (r : FlatWaiting) → WaitingCall [] sender r → r ≡ record { packets = 0; bytes = 0; refusal = 2 }
+unfolding firstOf
+c-waiting-refused sender r o = first-given (every-call-for-c-holds .waiting [] sender) 2 refl (λ z. omega arith) r tt o .0 .1
+
+pub c-next-refused : (fields : FlatFields) (sender : FlatSender) (queue out : List ℕ) (r : FlatNext) (queue′ out′ : List ℕ)
+    → NextCall 0 fields sender queue out r queue′ out′ → r ≡ record { sender = sender; kind = 0; refusal = 1 }
 unfolding firstOf tapsAllowed
 c-next-refused fields sender queue out r queue′ out′ o =
     first-given (every-call-for-c-holds .next-frame 0 fields sender queue out) 1 refl (λ z. omega arith) r (queue′, out′) o .0 .1
@@ -192,7 +213,7 @@ pub c-entry-refused : (r : FlatEntry) → EntryCall [] 1 r → r ≡ record { st
 unfolding firstOf lengthAt
 c-entry-refused r o = first-given (every-call-for-c-holds .entry [] 1) 16 refl (λ z. omega arith) r tt o .0 .1
 
-pub c-code-refused : (header : FlatHeader) (r : ℕ) (after : List ℕ) → CodeCall header [] r after → r ≡ 2
+pub c-code-refused : (header : FlatHeader) (r : FlatCode) (after : List ℕ) → CodeCall header [] r after → r ≡ record { refusal = 2 }
 unfolding firstOf
 c-code-refused header r after o = first-given (every-call-for-c-holds .code-header header []) 2 refl (λ z. omega arith) r after o .0 .1
 

@@ -11,6 +11,7 @@ use lib.Dec.{ltb}
 use lib.ListN.{length, getD, take}
 use borrow.Author.Tests.{eq-eqb}
 use Rattle.basics.specs.Lists.{zeros, Bytes, entries}
+use Rattle.basics.specs.Sizes.{queueSize}
 use Rattle.basics.specs.Numbers.{digit, number}
 use Rattle.basics.proofs.Lists.{zeros-length}
 use Rattle.lent.specs.Refusals.{firstOf}
@@ -23,21 +24,25 @@ use Rattle.header.specs.declared.Fields.{Fields}
 use Rattle.header.specs.declared.FrameKind.{FrameKind}
 use Rattle.header.specs.declared.FrameKind.the-variants.{Idle, Data}
 use Rattle.header.specs.declared.Header.{Header}
-use Rattle.reading.specs.Reading.{headerOf, readRefusal, readHeader}
-use Rattle.reading.specs.declared.ReadAnswer.the-variants.{Read}
+use Rattle.header_reading.specs.Reading.{headerOf, readRefusal, readHeader}
+use Rattle.header_reading.specs.declared.ReadAnswer.the-variants.{Read}
 use Rattle.frame.specs.Frame.{frameBytes}
 use Rattle.opening.specs.Opening.{OpenOutcome}
 use Rattle.opening.specs.declared.OpenAnswer.{OpenAnswer}
 use Rattle.opening.specs.declared.OpenAnswer.the-variants.{Opened}
 use Rattle.link.specs.Link.{Piece, Queue, empty}
 use Rattle.link.specs.Store.{layout}
-use Rattle.marks.specs.Queue.{isRingWhole, waitingIn}
+use Rattle.marks.specs.Queue.{isRingWhole, waitingIn, packetCount, byteCount}
 use Rattle.packing.specs.Rules.{Allowed}
 use Rattle.packing.specs.Filling.{fillWaiting}
 use Rattle.packing.specs.Records.{read}
 use Rattle.packing.proofs.Bench.{area-allowed}
 use Rattle.sender.specs.Put.{freshSender}
+use Rattle.sender.specs.Waiting.{counted, WaitingOutcome}
+use Rattle.sender.proofs.Counts.{whole-counted}
 use Rattle.sender.specs.declared.Sender.{Sender}
+use Rattle.sender.specs.declared.WaitingAnswer.{WaitingAnswer}
+use Rattle.sender.specs.declared.WaitingAnswer.the-variants.{Waiting}
 use Rattle.sending.specs.Next.{NextOutcome}
 use Rattle.sending.specs.declared.NextAnswer.the-variants.{Sent}
 use Rattle.receiver.specs.Applying.{freshReceiver}
@@ -91,7 +96,16 @@ first-byte taps =
     let at = bits .first-bits in
     one-byte (scrambled taps (0 ∷ [])) 0xE0 (bits .as-many (0 ∷ []))
     (bits .added (0 ∷ []) 0 (omega arith)
-    ∙ rw (at 0 (omega arith), at 1 (omega arith), at 2 (omega arith), at 3 (omega arith), at 4 (omega arith), at 5 (omega arith), at 6 (omega arith), at 7 (omega arith)))
+    ∙ rw (
+      at 0 (omega arith),
+      at 1 (omega arith),
+      at 2 (omega arith),
+      at 3 (omega arith),
+      at 4 (omega arith),
+      at 5 (omega arith),
+      at 6 (omega arith),
+      at 7 (omega arith),
+    ))
 
 -- ---- the queue
 
@@ -109,6 +123,20 @@ fresh-whole queue bytes = demand2-holds .queue-exactly queue 0 0 bytes .1 (empty
 
 pub fresh-waits : (queue : List ℕ) → waitingIn queue 0 0 ≡ empty
 fresh-waits queue = demand2-holds .queue-waits queue 0 0 empty (nothing-waits queue)
+
+-- what `waiting` counts is the packets whose layout the used bytes are: ..
+pub waiting-told : (queue : List ℕ) (sender : Sender) (waiting : Queue) → Bytes queue → length queue ≡ queueSize
+    → HoldsQueue queue (sender .start) (sender .used) waiting
+    → (answer : WaitingAnswer) → WaitingOutcome queue sender answer → answer ≡ Waiting (packetCount waiting) (byteCount waiting)
+waiting-told queue sender waiting bytes size holds answer o =
+    let whole = demand2-holds .queue-exactly queue (sender .start) (sender .used) bytes .1 (waiting, holds) in
+    o ∙ sym (whole-counted queue sender size whole) ∙ ap counted (demand2-holds .queue-waits queue (sender .start) (sender .used) waiting holds)
+
+-- .. two packets and five bytes where three bytes of one that is begun and two of another wait
+pub begun-told : (queue : List ℕ) (sender : Sender) → Bytes queue → length queue ≡ queueSize
+    → HoldsQueue queue (sender .start) (sender .used) (record { rest = some (1 ∷ 2 ∷ 3 ∷ []); waiting = (4 ∷ 5 ∷ []) ∷ [] })
+    → (answer : WaitingAnswer) → WaitingOutcome queue sender answer → answer ≡ Waiting 2 5
+begun-told queue sender = waiting-told queue sender (record { rest = some (1 ∷ 2 ∷ 3 ∷ []); waiting = (4 ∷ 5 ∷ []) ∷ [] })
 
 -- ---- the area
 
@@ -204,8 +232,8 @@ zeros-refused taps receiver hold list z =
     omega arith
 
 -- .. and what a fresh sender sends is accepted by a fresh receiver
-pub idle-accepted : (taps : ℕ) (fields : Fields) (hold list : List ℕ) → tapsAllowed taps ≡ true → fieldsFit fields ≡ true → length hold ≡ 9000 → 10907 ≤ length list
-    → Bytes (frameBytes taps (firstHeader Idle fields) (zeros 1908))
+pub idle-accepted : (taps : ℕ) (fields : Fields) (hold list : List ℕ) → tapsAllowed taps ≡ true → fieldsFit fields ≡ true
+    → length hold ≡ 9000 → 10907 ≤ length list → Bytes (frameBytes taps (firstHeader Idle fields) (zeros 1908))
     → receiveRefusal taps (frameBytes taps (firstHeader Idle fields) (zeros 1908)) freshReceiver hold list ≡ 0
 idle-accepted taps fields hold list allowed fit hold-size list-size bytes =
     demand2-holds .accepts-exactly taps (frameBytes taps (firstHeader Idle fields) (zeros 1908)) freshReceiver hold list bytes .1 (

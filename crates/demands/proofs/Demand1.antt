@@ -7,16 +7,18 @@ use native.Mathlib.Omega.{arith}
 use lib.Dec.{eqb}
 use lib.ListN.{length}
 use Rattle.lent.specs.Refusals.{firstOf}
-use Rattle.reading.specs.Reading.{readTable, readNumber, readRefusal, ReadHeaderOutcome}
+use Rattle.header_reading.specs.Reading.{readTable, readNumber, readRefusal, ReadHeaderOutcome}
 use Rattle.header.specs.Calls.{codeTable, codeNumber, codeRefusal, CodeHeaderOutcome}
-use Rattle.level.specs.Level.{levelOf, LevelOutcome}
+use Rattle.fast_channel.specs.Level.{levelOf, LevelOutcome}
 use Rattle.header.specs.declared.CodeAnswer.the-variants as coding
-use Rattle.reading.specs.declared.ReadAnswer.the-variants as reading
+use Rattle.header_reading.specs.declared.ReadAnswer.the-variants as reading
 use Rattle.opening.specs.Opening.{openTable, openNumber, openRefusal, OpenOutcome}
 use Rattle.opening.specs.declared.OpenAnswer.the-variants as opening
 use Rattle.sender.specs.Put.{putTable, putNumber, putRefusal, PutOutcome}
+use Rattle.sender.specs.Waiting.{waitingTable, waitingNumber, waitingRefusal, waitingAnswer, WaitingOutcome}
 use Rattle.sending.specs.Next.{nextTable, nextNumber, nextRefusal, NextOutcome}
 use Rattle.sender.specs.declared.PutAnswer.the-variants as putting
+use Rattle.sender.specs.declared.WaitingAnswer.the-variants as counting
 use Rattle.sending.specs.declared.NextAnswer.the-variants as sending
 use Rattle.receiver.specs.Applying.{applyTable, applyNumber, applyRefusal, ApplyOutcome}
 use Rattle.receiving.specs.Receiving.{receiveTable, receiveNumber, receiveRefusal, ReceiveOutcome}
@@ -56,7 +58,7 @@ module _ (list : List ℕ) (position : ℕ) where
       go false = refl
 
 pub every-call-holds : EveryCall
-unfolding putRefusal nextRefusal receiveRefusal openRefusal applyRefusal entryRefusal entryAnswer codeRefusal readRefusal
+unfolding putRefusal waitingRefusal waitingAnswer nextRefusal receiveRefusal openRefusal applyRefusal entryRefusal entryAnswer codeRefusal readRefusal
 every-call-holds = record {
   put = λ queue sender packet.
       let table = putTable queue (sender .start) (sender .used) packet in
@@ -70,8 +72,8 @@ every-call-holds = record {
       (record { answer = refl; bytes = refl; frame = refl }) (λ r after o. (o .answer, pair-path (o .bytes) (o .frame)));
   receive = λ taps frame receiver hold list.
       let table = receiveTable taps frame receiver hold list in
-      call-holds (λ answer after. ReceiveOutcome taps frame receiver hold list answer (after .0) (after .1)) receiveNumber (λ n. receiving.Refused n) (λ n. refl) _ refl
-      (λ n e. let z : Never = cc in omega arith) table refl (hold, list) (_, _)
+      call-holds (λ answer after. ReceiveOutcome taps frame receiver hold list answer (after .0) (after .1))
+      receiveNumber (λ n. receiving.Refused n) (λ n. refl) _ refl (λ n e. let z : Never = cc in omega arith) table refl (hold, list) (_, _)
       (λ ne. pair-path (unwritten (firstOf table) _ hold ne) (unwritten (firstOf table) _ list ne))
       (record { answer = refl; held = refl; listed = refl }) (λ r after o. (o .answer, pair-path (o .held) (o .listed)));
   open-frame = λ taps frame area.
@@ -80,22 +82,27 @@ every-call-holds = record {
       area _ (unwritten (firstOf table) _ area) (record { answer = refl; bytes = refl }) (λ r after o. (o .answer, o .bytes));
   apply = λ header area receiver hold list.
       let table = applyTable header area receiver hold list in
-      call-holds (λ answer after. ApplyOutcome header area receiver hold list answer (after .0) (after .1)) applyNumber (λ n. applying.Refused n) (λ n. refl) _ refl
-      (λ n e. let z : Never = cc in omega arith) table refl (hold, list) (_, _)
+      call-holds (λ answer after. ApplyOutcome header area receiver hold list answer (after .0) (after .1))
+      applyNumber (λ n. applying.Refused n) (λ n. refl) _ refl (λ n e. let z : Never = cc in omega arith) table refl (hold, list) (_, _)
       (λ ne. pair-path (unwritten (firstOf table) _ hold ne) (unwritten (firstOf table) _ list ne))
       (record { answer = refl; held = refl; listed = refl }) (λ r after o. (o .answer, pair-path (o .held) (o .listed)));
   code-header = λ header out.
       let table = codeTable header out in
       call-holds (CodeHeaderOutcome header out) codeNumber (λ n. coding.Refused n) (λ n. refl) _ refl (λ n e. let z : Never = cc in omega arith) table refl
       out _ (unwritten (firstOf table) _ out) (record { answer = refl; bytes = refl }) (λ r after o. (o .answer, o .bytes));
+  waiting = λ queue sender.
+      call-holds (λ answer after. WaitingOutcome queue sender answer) waitingNumber (λ n. counting.Refused n) (λ n. refl) _ refl
+      (λ n e. let z : Never = cc in omega arith) (waitingTable queue (sender .start) (sender .used)) refl tt tt (λ ne. refl) refl (λ r after o. (o, refl));
   read-header = λ bytes.
-      call-holds (λ answer after. ReadHeaderOutcome bytes answer) readNumber (λ n. reading.Refused n) (λ n. refl) _ refl (λ n e. let z : Never = cc in omega arith)
-      (readTable bytes) refl tt tt (λ ne. refl) refl (λ r after o. (o, refl));
+      call-holds (λ answer after. ReadHeaderOutcome bytes answer) readNumber (λ n. reading.Refused n) (λ n. refl) _ refl
+      (λ n e. let z : Never = cc in omega arith) (readTable bytes) refl tt tt (λ ne. refl) refl (λ r after o. (o, refl));
   entry = λ list position.
-      call-holds (λ answer after. EntryOutcome list position answer) entryNumber (λ n. listing.Refused n) (λ n. refl) (foundAt list position) (found-number list position)
+      call-holds (λ answer after. EntryOutcome list position answer) entryNumber (λ n. listing.Refused n) (λ n. refl)
+      (foundAt list position) (found-number list position)
       (never-found list position) (entryTable list position) refl tt tt (λ ne. refl) refl (λ r after o. (o, refl));
   packet = λ list from position.
-      never-refuses (λ answer after. PacketOutcome list from position (answer .0) (answer .1)) (packetAt list position, (from .0, placeAt list position + from .1)) tt
+      never-refuses (λ answer after. PacketOutcome list from position (answer .0) (answer .1))
+      (packetAt list position, (from .0, placeAt list position + from .1)) tt
       (record { bytes = refl; block = refl; place = refl }) (λ r after o. (λ j. (o .bytes j, (o .block j, o .place j)), refl));
   level = λ code. never-refuses (λ answer after. LevelOutcome code answer) (levelOf code) tt refl (λ r after o. (o, refl));
 }

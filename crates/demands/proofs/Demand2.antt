@@ -20,7 +20,7 @@ use Rattle.header.specs.Header.{headerFits, fieldsFit}
 use Rattle.header.specs.declared.Fields.{Fields}
 use Rattle.header.specs.declared.FrameKind.{FrameKind}
 use Rattle.header.specs.declared.Header.{Header}
-use Rattle.reading.proofs.Theorems.{read-of-coded, coded-of-read}
+use Rattle.header_reading.proofs.Theorems.{read-of-coded, coded-of-read}
 use Rattle.frame.specs.Frame.{frameBytes}
 use Rattle.opening.specs.Opening.{frameTable, unscrambled, openedHeader, openedArea, OpenOutcome}
 use Rattle.opening.specs.declared.OpenAnswer.the-variants.{Opened}

@@ -14,7 +14,8 @@ use Rattle.demands.specs.Demand3.{SenderCall, framesSent, Fate, marks, l
 use Rattle.demands.proofs.Sender.{granted, Sound, fresh-sound, all-carried}
 use Rattle.demands.proofs.Receiver.{fresh-holds, hears}
 
-pub demand3-holds : (taps : ℕ) (queue hold : List ℕ) (calls : List SenderCall) (fates : List Fate) → History taps queue hold calls fates → Promise taps queue calls fates
+pub demand3-holds : (taps : ℕ) (queue hold : List ℕ) (calls : List SenderCall) (fates : List Fate)
+    → History taps queue hold calls fates → Promise taps queue calls fates
 demand3-holds taps queue hold calls fates h =
     rw (← sound .taken, all-carried taps 0 (framesSent calls) pieces (sound .carried), sound .left, learns)
     (demand3 load (granted calls) (marks fates) allowed (h .limit))
@@ -30,5 +31,5 @@ demand3-holds taps queue hold calls fates h =
 
     learns : learned fates ≡ deliver (marks fates) 0 fresh pieces
     learns =
-        hears taps (h .allowed) (marks fates) fates 0 freshReceiver hold fresh (framesSent calls) pieces (λ k. rw zero-add) (fresh-holds hold (h .hold-size)) (sound .carried)
-        (h .came)
+        hears taps (h .allowed) (marks fates) fates 0 freshReceiver hold fresh (framesSent calls) pieces (λ k. rw zero-add)
+        (fresh-holds hold (h .hold-size)) (sound .carried) (h .came)

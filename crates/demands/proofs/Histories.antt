@@ -179,5 +179,6 @@ module _ (taps : ℕ) (allowed : tapsAllowed taps ≡ true) (queue : List ℕ) (
 
   -- of any inputs, with any ways
   pub any-history : (inputs : List Input)
-      → History taps queue hold (callsOf taps freshSender queue inputs) (fatesOf taps freshReceiver hold ways (framesSent (callsOf taps freshSender queue inputs)))
+      → History taps queue hold (callsOf taps freshSender queue inputs)
+      (fatesOf taps freshReceiver hold ways (framesSent (callsOf taps freshSender queue inputs)))
   any-history inputs = history-of (callsOf taps freshSender queue inputs) (any-calls taps inputs freshSender queue)

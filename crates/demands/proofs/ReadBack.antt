@@ -22,7 +22,8 @@ use Rattle.receiving.proofs.Receiving.{receive-numbers, accepted-answer, accept
 abbrev pub completed : ℕ → List ℕ → Receiver → List ℕ → List Packet
 completed taps frame receiver hold = joined (openedHeader taps frame) (openedArea taps frame) receiver hold .out
 
-pub receive-read : (taps : ℕ) (frame : List ℕ) (receiver : Receiver) (hold list : List ℕ) (header : Header) (missed packets listed : ℕ) (after : Receiver) (hold′ list′ : List ℕ)
+pub receive-read : (taps : ℕ) (frame : List ℕ) (receiver : Receiver) (hold list : List ℕ)
+    → (header : Header) (missed packets listed : ℕ) (after : Receiver) (hold′ list′ : List ℕ)
     → ReceiveOutcome taps frame receiver hold list (Received header missed packets listed after) hold′ list′
     → (packetsRead (take listed list′) ≡ some (completed taps frame receiver hold)) × (packets ≡ length (completed taps frame receiver hold))
 receive-read taps frame receiver hold list header missed packets listed after hold′ list′ x =

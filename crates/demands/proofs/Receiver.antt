@@ -48,7 +48,8 @@ fresh-holds hold e = record { stands = refl; most = omega arith; long = e }
 hold-stays : (taps : ℕ) (frame : List ℕ) (receiver : Receiver) (hold list : List ℕ) (number : ℕ) (hold′ list′ : List ℕ)
     → ReceiveOutcome taps frame receiver hold list (answer.Refused number) hold′ list′ → hold′ ≡ hold
 hold-stays taps frame receiver hold list number hold′ list′ o =
-    ap (λ (lent : List ℕ × List ℕ). lent .0) (every-call-holds .receive taps frame receiver hold list .refusal (answer.Refused number) number (hold′, list′) o refl .1)
+    ap (λ (lent : List ℕ × List ℕ). lent .0)
+    (every-call-holds .receive taps frame receiver hold list .refusal (answer.Refused number) number (hold′, list′) o refl .1)
 
 -- ---- a frame that carries pieces is received as `Machine` says
 
@@ -101,7 +102,8 @@ module _ (taps : ℕ) (frame : List ℕ) (receiver : Receiver) (hold list : List
 
   -- the rows 14 and 15, by whether the first piece fits
   area-number : (test : Bool) → fits part pieces ≡ test → firstOf (areaTable part (piecesOf (header .kind) area)) ≡ cond test 0 15
-  area-number test e = ap (λ (records : Option (List Piece)). firstOf (areaTable part records)) (pieces-are taps s) ∙ read-as part pieces ∙ ap (λ (t : Bool). cond t 0 15) e
+  area-number test e =
+      ap (λ (records : Option (List Piece)). firstOf (areaTable part records)) (pieces-are taps s) ∙ read-as part pieces ∙ ap (λ (t : Bool). cond t 0 15) e
 
   accepts : fits part pieces ≡ true → Takes receiver r hold′ list′ as-model
   accepts e =
@@ -111,7 +113,8 @@ module _ (taps : ℕ) (frame : List ℕ) (receiver : Receiver) (hold list : List
       let is = sym comes-so ∙ machine-takes header area receiver hold pieces (pieces-are taps s) e in
       rw (is, accepted-answer o z, accepted-hold o z, accepted-list o z)
       (record {
-        learns = ap (λ (l : List ℕ). readOut (missedCount header receiver) (packetsRead l)) (written-front list (layoutPackets out) (length (layoutPackets out)) refl)
+        learns = ap (λ (l : List ℕ). readOut (missedCount header receiver) (packetsRead l))
+            (written-front list (layoutPackets out) (length (layoutPackets out)) refl)
             ∙ ap (readOut (missedCount header receiver)) (list-read out (well .packets));
         holds = record {
           stands = λ j. record { expected = some (nextTxfn (header .txfn .0)); held = written-front hold held (length held) refl j };

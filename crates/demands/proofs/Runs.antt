@@ -48,7 +48,8 @@ pub record Ready (sender : Sender) (queue : List ℕ) (i : ℕ) (q : Queue) : Ty
   pub used-is : sender .used ≡ length (layout q)
   pub within : sender .used ≤ 32768
 
-whole-so : (queue : List ℕ) (start used : ℕ) (q : Queue) → start < 32768 → used ≤ 32768 → parse (usedIn queue start used) ≡ some q → isRingWhole queue start used ≡ true
+whole-so : (queue : List ℕ) (start used : ℕ) (q : Queue) → start < 32768 → used ≤ 32768
+    → parse (usedIn queue start used) ≡ some q → isRingWhole queue start used ≡ true
 unfolding isRingWhole isWhole
 whole-so queue start used q inside small e = rw (lt-ltb start 32768 inside, le-leb used 32768 small) (ap isSome e)
 
@@ -71,7 +72,8 @@ module _ (taps : ℕ) (allowed : tapsAllowed taps ≡ true) where
       ∷ run (putSender sender packet) (putBytes queue (sender .start) (sender .used) packet) inputs
   run sender queue (askFrame fields out ∷ inputs) =
       let waiting = waitingIn queue (sender .start) (sender .used) in
-      callNext fields out (sending.Sent (senderAfter sender waiting) (kindFor waiting)) (ringWritten queue (senderAfter sender waiting .start) 0 (layout (leftIn waiting)))
+      callNext fields out (sending.Sent (senderAfter sender waiting) (kindFor waiting))
+      (ringWritten queue (senderAfter sender waiting .start) 0 (layout (leftIn waiting)))
       (written out 0 (frameBytes taps (headerFor sender fields waiting) (areaFor waiting)))
       ∷ run (senderAfter sender waiting) (ringWritten queue (senderAfter sender waiting .start) 0 (layout (leftIn waiting))) inputs
 
@@ -97,10 +99,12 @@ module _ (taps : ℕ) (allowed : tapsAllowed taps ≡ true) where
 
       put-ready : Ready (putSender sender packet) (putBytes queue (sender .start) (sender .used) packet) i (withPacket q packet)
       put-ready =
-          let long = ap length (put-lays q packet) ∙ length-append (layout q) (marked (length packet) packet) in
+          let after = putBytes queue (sender .start) (sender .used) packet in
+          let entry = marked (length packet) packet in
+          let long = ap length (put-lays q packet) ∙ length-append (layout q) entry in
           record {
-            stands = put-stands queue sender packet (putSender sender packet) (putBytes queue (sender .start) (sender .used) packet) i q put-yes bytes (r .stands) .1;
-            size = ring-length queue (sender .start) (sender .used) (marked (length packet) packet) (omega (arith, r .size, r .begins)) (omega (arith, r .size, r .used-is)) ∙ r .size;
+            stands = put-stands queue sender packet (putSender sender packet) after i q put-yes bytes (r .stands) .1;
+            size = ring-length queue (sender .start) (sender .used) entry (omega (arith, r .size, r .begins)) (omega (arith, r .size, r .used-is)) ∙ r .size;
             begins = r .begins;
             used-is = omega (arith, r .used-is, long);
             within = omega (arith, r .used-is);
@@ -136,7 +140,9 @@ module _ (taps : ℕ) (allowed : tapsAllowed taps ≡ true) where
           let less = left-no-longer q in
           record {
             stands = next-stands taps fields sender queue out (senderAfter sender waiting) (kindFor waiting) queue′ out′ i q next-yes (r .stands) .1;
-            size = ring-length queue (senderAfter sender waiting .start) 0 (layout (leftIn waiting)) (omega (arith, r .size)) (omega (arith, r .size, r .used-is, r .within)) ∙ r .size;
+            size = ring-length queue (senderAfter sender waiting .start) 0 (layout (leftIn waiting))
+                (omega (arith, r .size)) (omega (arith, r .size, r .used-is, r .within))
+                ∙ r .size;
             begins = omega arith;
             used-is = left-is;
             within = omega (arith, r .used-is, r .within);
@@ -147,8 +153,8 @@ module _ (taps : ℕ) (allowed : tapsAllowed taps ≡ true) where
   all-yes [] sender queue i q r h = tt
   all-yes (givePacket packet bytes ∷ inputs) sender queue i q r h =
       let next = put-ready r packet (h .0) bytes (h .1) in
-      let after = putSender sender packet in
-      (bytes, put-yes r packet (h .0) bytes (h .1), all-yes inputs after (putBytes queue (sender .start) (sender .used) packet) i (withPacket q packet) next (h .2))
+      let left = putBytes queue (sender .start) (sender .used) packet in
+      (bytes, put-yes r packet (h .0) bytes (h .1), all-yes inputs (putSender sender packet) left i (withPacket q packet) next (h .2))
   all-yes (askFrame fields out ∷ inputs) sender queue i q r h =
       let next = next-ready r fields out (h .0) (h .1) in
       (next-yes r fields out (h .0) (h .1), all-yes inputs (senderAfter sender (waiting r)) (queue′ r) (suc i) (leftIn q) next (h .2))

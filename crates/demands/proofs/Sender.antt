@@ -41,7 +41,8 @@ granted (callNext fields out (next.Sent sender kind) queue after ∷ calls) = ma
 granted (callNext fields out (next.Refused number) queue after ∷ calls) = granted calls
 
 -- a refusal leaves the queue
-put-kept : (queue : List ℕ) (sender : Sender) (packet : List ℕ) (number : ℕ) (after : List ℕ) → PutOutcome queue sender packet (put.Refused number) after → after ≡ queue
+put-kept : (queue : List ℕ) (sender : Sender) (packet : List ℕ) (number : ℕ) (after : List ℕ)
+    → PutOutcome queue sender packet (put.Refused number) after → after ≡ queue
 put-kept queue sender packet number after o = every-call-holds .put queue sender packet .refusal (put.Refused number) number after o refl .1
 
 module _ (taps : ℕ) where
@@ -100,7 +101,8 @@ module _ (taps : ℕ) where
   next-kept : (fields : Fields) (sender : Sender) (queue out : List ℕ) (number : ℕ) (left after : List ℕ)
       → NextOutcome taps fields sender queue out (next.Refused number) left after → left ≡ queue
   next-kept fields sender queue out number left after o =
-      ap (λ (lent : List ℕ × List ℕ). lent .0) (every-call-holds .next-frame taps fields sender queue out .refusal (next.Refused number) number (left, after) o refl .1)
+      ap (λ (lent : List ℕ × List ℕ). lent .0)
+      (every-call-holds .next-frame taps fields sender queue out .refusal (next.Refused number) number (left, after) o refl .1)
 
   bench-pieces : (q : Queue) → IsQueue q → piecesIn bench (frameFor bench q) ≡ some (cut (load q) q .pieces)
   unfolding bench
@@ -114,7 +116,8 @@ module _ (taps : ℕ) where
 
   sound : (calls : List SenderCall) (i : ℕ) (q : Queue) (sender : Sender) (queue : List ℕ) → Stands queue sender i q → IsQueue q
       → SenderCalls taps sender queue calls → Sound i q sender queue calls
-  sound [] i q sender queue s k h = record { carried = tt; packets = tt; taken = refl; left = queue-is (usedIn queue (sender .start) (sender .used)) q (s .parsed) }
+  sound [] i q sender queue s k h =
+      record { carried = tt; packets = tt; taken = refl; left = queue-is (usedIn queue (sender .start) (sender .used)) q (s .parsed) }
   sound (callPut packet (put.Taken after) left ∷ calls) i q sender queue s k h =
       let l = put-stands queue sender packet after left i q (h .1) (h .0) s in
       let r = sound calls i (withPacket q packet) after left (l .1) (put-queue q packet k (l .0)) (h .2) in

@@ -6,30 +6,36 @@ use mathlib.Core.List.{List, []}
 use Prim.Native.Nat.{ℕ}
 use lib.IntN.{ℤ}
 use Rattle.header.specs.Calls.{codeTable}
-use Rattle.reading.specs.Reading.{readTable}
-use Rattle.reading.specs.declared.ReadAnswer.the-variants as reading
+use Rattle.header.specs.declared.CodeAnswer.the-variants as coding
+use Rattle.header_reading.specs.Reading.{readTable}
+use Rattle.header_reading.specs.declared.ReadAnswer.the-variants as reading
 use Rattle.sender.specs.Put.{putTable}
+use Rattle.sender.specs.Waiting.{waitingTable}
 use Rattle.sender.specs.declared.PutAnswer.the-variants as putting
+use Rattle.sender.specs.declared.WaitingAnswer.the-variants as counting
 use Rattle.sending.specs.Next.{nextTable}
 use Rattle.sending.specs.declared.NextAnswer.the-variants as sending
 use Rattle.receiving.specs.Receiving.{receiveTable}
 use Rattle.receiving.specs.declared.ReceiveAnswer.the-variants as receiving
 use Rattle.list.specs.Entries.{entryTable}
 use Rattle.list.specs.declared.EntryAnswer.the-variants as listing
-use Rattle.flat_headers.specs.Headers.{fieldsOf, headerOf}
-use Rattle.flat_headers.specs.declared.headers.FlatFields.{FlatFields}
-use Rattle.flat_headers.specs.declared.headers.FlatHeader.{FlatHeader}
-use Rattle.flat_states.specs.States.{receiverOf}
-use Rattle.flat_states.specs.declared.FlatReceiver.{FlatReceiver}
-use Rattle.flat_states.specs.declared.FlatSender.{FlatSender}
-use Rattle.flat.specs.Answers.{flatPut, flatNext, flatReceive, flatRead, flatEntry}
+use Rattle.flat.specs.Headers.{fieldsOf, headerOf}
+use Rattle.flat.specs.declared.headers.FlatFields.{FlatFields}
+use Rattle.flat.specs.declared.headers.FlatHeader.{FlatHeader}
+use Rattle.flat.specs.States.{receiverOf}
+use Rattle.flat.specs.declared.states.FlatReceiver.{FlatReceiver}
+use Rattle.flat.specs.declared.states.FlatSender.{FlatSender}
+use Rattle.flat.specs.Answers.{flatPut, flatWaiting, flatNext, flatReceive, flatCode, flatRead, flatEntry}
 use Rattle.flat.specs.declared.FlatPut.{FlatPut}
+use Rattle.flat.specs.declared.FlatWaiting.{FlatWaiting}
 use Rattle.flat.specs.declared.FlatNext.{FlatNext}
 use Rattle.flat.specs.declared.FlatReceive.{FlatReceive}
+use Rattle.flat.specs.declared.FlatCode.{FlatCode}
 use Rattle.flat.specs.declared.FlatRead.{FlatRead}
 use Rattle.flat.specs.declared.FlatEntry.{FlatEntry}
 use Rattle.flat.specs.declared.FlatPacket.{FlatPacket}
-use Rattle.taqwelim.specs.Calls.{FreshSenderCall, PutCall, NextCall, FreshReceiverCall, ReceiveCall, EntryCall, PacketCall, CodeCall, ReadCall, LevelCall}
+use Rattle.taqwelim.specs.Calls.{FreshSenderCall, PutCall, WaitingCall, NextCall, FreshReceiverCall, ReceiveCall, EntryCall, PacketCall}
+use Rattle.taqwelim.specs.Calls.{CodeCall, ReadCall, LevelCall}
 use Rattle.demands.specs.Demand1.{Demand1}
 
 -- an answer refuses with a number, which is not 0, if it is what C gets for that refusal (0 is what C gets where nothing is refused)
@@ -41,6 +47,9 @@ pub record EveryCallForC : Type 0 where
   pub put : (queue : List ℕ) (sender : FlatSender) (packet : List ℕ)
       → Demand1 {Answer = FlatPut} (PutCall queue sender packet) queue (λ answer. answer .refusal)
       (RefusesAs (λ number. flatPut sender (putting.Refused number))) (putTable queue (sender .start) (sender .used) packet)
+  pub waiting : (queue : List ℕ) (sender : FlatSender)
+      → Demand1 {Answer = FlatWaiting} {Lent = Unit {0}} (λ answer after. WaitingCall queue sender answer) tt (λ answer. answer .refusal)
+      (RefusesAs (λ number. flatWaiting (counting.Refused number))) (waitingTable queue (sender .start) (sender .used))
   pub next-frame : (taps : ℕ) (fields : FlatFields) (sender : FlatSender) (queue out : List ℕ)
       → Demand1 {Answer = FlatNext} {Lent = List ℕ × List ℕ} (λ answer after. NextCall taps fields sender queue out answer (after .0) (after .1)) (queue, out)
       (λ answer. answer .refusal) (RefusesAs (λ number. flatNext sender (sending.Refused number)))
@@ -56,7 +65,8 @@ pub record EveryCallForC : Type 0 where
   pub packet : (list : List ℕ) (position : ℕ)
       → Demand1 {Answer = FlatPacket} {Lent = Unit {0}} (λ answer after. PacketCall list position answer) tt (λ answer. 0) (λ answer number. ⊥) []
   pub code-header : (header : FlatHeader) (out : List ℕ)
-      → Demand1 {Answer = ℕ} (CodeCall header out) out (λ answer. answer) (RefusesAs (λ number. number)) (codeTable (headerOf header) out)
+      → Demand1 {Answer = FlatCode} (CodeCall header out) out (λ answer. answer .refusal) (RefusesAs (λ number. flatCode (coding.Refused number)))
+      (codeTable (headerOf header) out)
   pub read-header : (bytes : List ℕ)
       → Demand1 {Answer = FlatRead} {Lent = Unit {0}} (λ answer after. ReadCall bytes answer) tt (λ answer. answer .refusal)
       (RefusesAs (λ number. flatRead (reading.Refused number))) (readTable bytes)

@@ -11,7 +11,7 @@ use Rattle.basics.specs.Lists.{zeros}
 use Rattle.crc.specs.Crc.{crc-16, crc-32}
 use Rattle.field.specs.Field.{power}
 use Rattle.scrambler.specs.Scrambler.{scrambled}
-use Rattle.level.specs.Level.{levelOf}
+use Rattle.fast_channel.specs.Level.{levelOf}
 use Rattle.header.specs.Header.{fieldBytes}
 use Rattle.header.specs.declared.Fields.{Fields}
 use Rattle.header.specs.declared.Header.{Header}

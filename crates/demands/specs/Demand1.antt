@@ -8,22 +8,25 @@ use Prim.Native.Nat.{ℕ, _≤_}
 use lib.IntN.{ℤ}
 use Rattle.lent.specs.Refusals.{Row, firstOf}
 use Rattle.header.specs.Calls.{codeTable, codeNumber, CodeHeaderOutcome}
-use Rattle.reading.specs.Reading.{readTable, readNumber, ReadHeaderOutcome}
-use Rattle.level.specs.Level.{LevelOutcome}
+use Rattle.header_reading.specs.Reading.{readTable, readNumber, ReadHeaderOutcome}
+use Rattle.fast_channel.specs.Level.{LevelOutcome}
 use Rattle.header.specs.declared.Fields.{Fields}
 use Rattle.header.specs.declared.Header.{Header}
 use Rattle.header.specs.declared.CodeAnswer.{CodeAnswer}
 use Rattle.header.specs.declared.CodeAnswer.the-variants as coding
-use Rattle.reading.specs.declared.ReadAnswer.{ReadAnswer}
-use Rattle.reading.specs.declared.ReadAnswer.the-variants as reading
+use Rattle.header_reading.specs.declared.ReadAnswer.{ReadAnswer}
+use Rattle.header_reading.specs.declared.ReadAnswer.the-variants as reading
 use Rattle.opening.specs.Opening.{openTable, openNumber, OpenOutcome}
 use Rattle.opening.specs.declared.OpenAnswer.{OpenAnswer}
 use Rattle.opening.specs.declared.OpenAnswer.the-variants as opening
 use Rattle.sender.specs.Put.{putTable, putNumber, PutOutcome}
+use Rattle.sender.specs.Waiting.{waitingTable, waitingNumber, WaitingOutcome}
 use Rattle.sending.specs.Next.{nextTable, nextNumber, NextOutcome}
 use Rattle.sender.specs.declared.Sender.{Sender}
 use Rattle.sender.specs.declared.PutAnswer.{PutAnswer}
 use Rattle.sender.specs.declared.PutAnswer.the-variants as putting
+use Rattle.sender.specs.declared.WaitingAnswer.{WaitingAnswer}
+use Rattle.sender.specs.declared.WaitingAnswer.the-variants as counting
 use Rattle.sending.specs.declared.NextAnswer.{NextAnswer}
 use Rattle.sending.specs.declared.NextAnswer.the-variants as sending
 use Rattle.receiver.specs.Applying.{applyTable, applyNumber, ApplyOutcome}
@@ -75,6 +78,9 @@ pub record EveryCall : Type 0 where
   pub code-header : (header : Header) (out : List ℕ)
       → Demand1 {Answer = CodeAnswer} (CodeHeaderOutcome header out) out codeNumber (λ answer number. answer ≡ coding.Refused number) (codeTable header out)
   -- the calls below write nothing; the last two refuse nothing
+  pub waiting : (queue : List ℕ) (sender : Sender)
+      → Demand1 {Answer = WaitingAnswer} {Lent = Unit {0}} (λ answer after. WaitingOutcome queue sender answer) tt waitingNumber
+      (λ answer number. answer ≡ counting.Refused number) (waitingTable queue (sender .start) (sender .used))
   pub read-header : (bytes : List ℕ)
       → Demand1 {Answer = ReadAnswer} {Lent = Unit {0}} (λ answer after. ReadHeaderOutcome bytes answer) tt readNumber
       (λ answer number. answer ≡ reading.Refused number) (readTable bytes)

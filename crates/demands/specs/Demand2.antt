@@ -16,12 +16,12 @@ use Rattle.basics.specs.Numbers.{digit}
 use Rattle.lent.specs.Written.{written}
 use Rattle.scrambler.specs.Scrambler.{tapsAllowed, sumBelow, bit, keyByte, scrambled}
 use Rattle.header.specs.Header.{headerBytes, headerFits}
-use Rattle.reading.specs.Reading.{headerOf, readRefusal, readHeader}
+use Rattle.header_reading.specs.Reading.{headerOf, readRefusal, readHeader}
 use Rattle.header.specs.declared.Fields.{Fields}
 use Rattle.header.specs.declared.FrameKind.{FrameKind}
 use Rattle.header.specs.declared.FrameKind.the-variants.{Idle, Data}
 use Rattle.header.specs.declared.Header.{Header}
-use Rattle.reading.specs.declared.ReadAnswer.the-variants.{Read}
+use Rattle.header_reading.specs.declared.ReadAnswer.the-variants.{Read}
 use Rattle.frame.specs.Frame.{frameBytes}
 use Rattle.opening.specs.Opening.{OpenOutcome}
 use Rattle.opening.specs.declared.OpenAnswer.{OpenAnswer}
@@ -111,8 +111,8 @@ pub record Demand2 : Type 0 where
   pub frame-again : (taps : ℕ) (frame before : List ℕ) (header : Header) (after : List ℕ) → Bytes frame → OpenOutcome taps frame before (Opened header) after
       → (area : List ℕ) × ((frame ≡ frameBytes taps header area) × (headerFits header ≡ true) × (length area ≡ areaSize) × (after ≡ written before 0 area))
   -- next_frame: what stands at the front of its buffer, for a number of 16 bits
-  pub sends : (taps : ℕ) (fields : Fields) (sender sender′ : Sender) (queue out : List ℕ) (kind : FrameKind) (queue′ out′ : List ℕ) → sender .next .0 < frameNumbers
-      → NextOutcome taps fields sender queue out (Sent sender′ kind) queue′ out′
+  pub sends : (taps : ℕ) (fields : Fields) (sender sender′ : Sender) (queue out : List ℕ) (kind : FrameKind) (queue′ out′ : List ℕ)
+      → sender .next .0 < frameNumbers → NextOutcome taps fields sender queue out (Sent sender′ kind) queue′ out′
       → SentFrame taps fields sender (waitingIn queue (sender .start) (sender .used)) kind (take frameSize out′)
   -- receive: it refuses nothing else
   pub accepts-exactly : (taps : ℕ) (frame : List ℕ) (receiver : Receiver) (hold list : List ℕ) → Bytes frame

@@ -95,7 +95,8 @@ ReceiverCalls taps receiver hold [] frames = Unit {0}
 ReceiverCalls taps receiver hold (fate ∷ fates) [] = ⊥
 ReceiverCalls taps receiver hold (missing ∷ fates) (frame ∷ frames) = ReceiverCalls taps receiver hold fates frames
 ReceiverCalls taps receiver hold (arrives list answer left after ∷ fates) (frame ∷ frames) =
-    (listSize ≤ length list) × ReceiveOutcome taps frame receiver hold list answer left after × ReceiverCalls taps (receiverAfter receiver answer) left fates frames
+    (listSize ≤ length list) × ReceiveOutcome taps frame receiver hold list answer left after
+    × ReceiverCalls taps (receiverAfter receiver answer) left fates frames
 ReceiverCalls taps receiver hold (damaged other list number left after ∷ fates) (frame ∷ frames) =
     ReceiveOutcome taps other receiver hold list (receive.Refused number) left after × ReceiverCalls taps receiver left fates frames
 

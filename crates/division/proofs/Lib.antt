@@ -1,3 +1,5 @@
 pub mod Register
 pub mod Linear
 pub mod Identity
+pub mod Doubling
+pub mod Basis

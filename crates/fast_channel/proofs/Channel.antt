@@ -12,7 +12,8 @@ use Rattle.fast_channel.specs.FastChannel.{lockNumber, withLock, lockOf,
 use Rattle.fast_channel.specs.declared.Lock.{Lock}
 use Rattle.fast_channel.specs.declared.Lock.the-variants.{NotLocked, Locked}
 use Rattle.fast_channel.specs.declared.FastChannel.{FastChannel}
-use Rattle.fast_channel.specs.declared.FastChannel.the-variants.{CrcErrors, ReceivedPower, PowerStatistics, SyncLosses, PowerRange, Version, CorrectedFrames, Reserved, Absent}
+use Rattle.fast_channel.specs.declared.FastChannel.the-variants.{CrcErrors, ReceivedPower, PowerStatistics, SyncLosses, PowerRange}
+use Rattle.fast_channel.specs.declared.FastChannel.the-variants.{Version, CorrectedFrames, Reserved, Absent}
 
 -- ---- from the message
 
@@ -86,7 +87,16 @@ message-back (PowerRange a b) e = rw (first a b e, second a b e)
 message-back (Version a b c) e = version-back a b c e
 message-back (CorrectedFrames n) e = refl
 message-back (Reserved o) e =
-    simp (other o e 0 (omega arith), other o e 1 (omega arith), other o e 2 (omega arith), other o e 3 (omega arith), other o e 4 (omega arith), other o e 5 (omega arith), other o e 6 (omega arith), last o e)
+    simp (
+      other o e 0 (omega arith),
+      other o e 1 (omega arith),
+      other o e 2 (omega arith),
+      other o e 3 (omega arith),
+      other o e 4 (omega arith),
+      other o e 5 (omega arith),
+      other o e 6 (omega arith),
+      last o e,
+    )
 message-back Absent e = refl
 
 pub rule-kept : (m : FastChannel) → messageFits m ≡ true → payloadRule (opcodeOf m) (payloadOf m) ≡ true
@@ -132,7 +142,7 @@ pub record Carries (o p : ℕ) (m : FastChannel) : Type 0 where
   pub payload-is : payloadOf m ≡ p
   pub message-fits : messageFits m ≡ true
 
--- a choice has what and-eq-true-iff its ends .0 have
+-- a choice has what both its ends have
 chosen : {A : Type 0} (P : A → Type 0) (b : Bool) (x y : A) → (b ≡ true → P x) → (b ≡ false → P y) → P (cond b x y)
 chosen P true x y f g = f refl
 chosen P false x y f g = g refl
@@ -157,6 +167,9 @@ module _ (o p : ℕ) (o-lt : o < 16) (p-lt : p < 65536) (rule : payloadRule o p 
   is : (k : ℕ) → eqb o k ≡ true → k ≡ o
   is k e = sym (eqb-true o k e)
 
+  power-fits : fitsBits 14 (p / 4) ≡ true
+  power-fits = lt-ltb (p / 4) 16384 (omega arith)
+
   pair-fits : (fitsBits 8 (p / 256) && fitsBits 8 (p % 256)) ≡ true
   pair-fits = rw (lt-ltb (p / 256) 256 (omega arith), lt-ltb (p % 256) 256 (omega arith))
 
@@ -176,9 +189,9 @@ module _ (o p : ℕ) (o-lt : o < 16) (p-lt : p < 65536) (rule : payloadRule o p 
   message-carries =
       let P = Carries o p in
       chosen P (eqb o 0) _ _ (λ e. record { opcode-is = is 0 e; payload-is = refl; message-fits = lt-ltb p 65536 p-lt })
-      (λ e₀. chosen P (eqb o 1) _ _ (λ e. record { opcode-is = is 1 e; payload-is = with-lock p p-lt (rule-at 1 e); message-fits = lt-ltb (p / 4) 16384 (omega arith) })
+      (λ e₀. chosen P (eqb o 1) _ _ (λ e. record { opcode-is = is 1 e; payload-is = with-lock p p-lt (rule-at 1 e); message-fits = power-fits })
       (λ e₁. chosen P (eqb o 2) _ _ (λ e. record { opcode-is = is 2 e; payload-is = omega arith; message-fits = pair-fits })
-      (λ e₂. chosen P (eqb o 3) _ _ (λ e. record { opcode-is = is 3 e; payload-is = with-lock p p-lt (rule-at 3 e); message-fits = lt-ltb (p / 4) 16384 (omega arith) })
+      (λ e₂. chosen P (eqb o 3) _ _ (λ e. record { opcode-is = is 3 e; payload-is = with-lock p p-lt (rule-at 3 e); message-fits = power-fits })
       (λ e₃. chosen P (eqb o 4) _ _ (λ e. record { opcode-is = is 4 e; payload-is = omega arith; message-fits = pair-fits })
       (λ e₄. chosen P (eqb o 5) _ _ (λ e. record { opcode-is = is 5 e; payload-is = omega arith; message-fits = version-fits })
       (λ e₅. chosen P (eqb o 6) _ _ (λ e. record { opcode-is = is 6 e; payload-is = refl; message-fits = lt-ltb p 65536 p-lt })

@@ -7,7 +7,8 @@ use Rattle.basics.specs.Numbers.{fitsBits}
 use Rattle.fast_channel.specs.declared.Lock.{Lock}
 use Rattle.fast_channel.specs.declared.Lock.the-variants.{NotLocked, Locked}
 use Rattle.fast_channel.specs.declared.FastChannel.{FastChannel}
-use Rattle.fast_channel.specs.declared.FastChannel.the-variants.{CrcErrors, ReceivedPower, PowerStatistics, SyncLosses, PowerRange, Version, CorrectedFrames, Reserved, Absent}
+use Rattle.fast_channel.specs.declared.FastChannel.the-variants.{CrcErrors, ReceivedPower, PowerStatistics, SyncLosses, PowerRange}
+use Rattle.fast_channel.specs.declared.FastChannel.the-variants.{Version, CorrectedFrames, Reserved, Absent}
 
 abbrev pub lockNumber : Lock → ℕ
 lockNumber NotLocked = 0

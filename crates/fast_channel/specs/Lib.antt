@@ -1,1 +1,2 @@
 pub mod FastChannel
+pub mod Level

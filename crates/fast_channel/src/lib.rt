@@ -1,10 +1,12 @@
 // The messages of the fast channel (source 000, Tables 2-12 and 2-13): to an opcode and a payload of 16 bits, and back.
+// And the level that a code stands for.
 ghost use mathlib.Core.Path.{_≡_};
 ghost use mathlib.Core.Bool.{_&&_};
 ghost use Prim.Native.Nat.{_+_, _*_, _%_, _≤_};
 ghost use lib.Dec.{leb};
 ghost use Rattle.basics.specs.Numbers.{fitsBits};
 ghost use Rattle.fast_channel.specs.FastChannel.{lockNumber, withLock, lockOf, opcodeOf, payloadOf, messageFits, messageOf, payloadRule};
+ghost use Rattle.fast_channel.specs.Level.{LevelOutcome};
 
 // Frame synchronization over the time that a message reports on: lost at least once, or held.
 pub enum Lock {
@@ -217,4 +219,11 @@ pub fn payload_rule(opcode: u8, payload: u16) -> bool
         return payload == 65535;
     }
     payload == 0
+}
+
+// The level that a code stands for, in hundred-thousandths of a dBm/m².
+pub fn level(code: u8) -> i32
+    ensures { λ r. ⌜ LevelOutcome code r ⌝ }
+{
+    -25086 * (code as i32)
 }

@@ -6,11 +6,12 @@ use native.Mathlib.Nat.{mod-lt, zero-mul, one-mul, zero-add, suc-add}
 use native.Mathlib.Numerals.{add-one}
 use lib.Dec.{T, eqb, eqb→eq, lit<}
 use lib.Bits.{bitXor, xor-lt, xor-mod}
-use Rattle.field.specs.Field.{twice, double, power, sumOver, times}
+use Rattle.division.specs.Doubling.{twice}
+use Rattle.field.specs.Field.{double, power, sumOver, times}
 use Rattle.basics.proofs.Xor.{bit-mul-lt, xor-half, xor-cross, xor-bit-mul, bit-cases}
 use Rattle.basics.specs.Lists.{allBelow}
 use Rattle.basics.proofs.Tests.{below}
-use Rattle.field.proofs.Basis.{Additive, agree, additive-zero}
+use Rattle.division.proofs.Basis.{Additive, agree, additive-zero}
 use Rattle.field.proofs.Double.{double-xor, double-lt}
 
 -- ---- sums
@@ -97,7 +98,9 @@ two-tests = tt
 
 comm-basis : (i j : ℕ) → i < 8 → j < 8 → times (2 ^ i) (2 ^ j) ≡ times (2 ^ j) (2 ^ i)
 unfolding comm-test
-comm-basis i j hi hj = eqb→eq (times (2 ^ i) (2 ^ j)) (times (2 ^ j) (2 ^ i)) (below 8 (comm-test i) (below 8 (λ i. allBelow 8 (λ j. comm-test i j)) comm-tests i hi) j hj)
+comm-basis i j hi hj =
+    let at-i = below 8 (λ i. allBelow 8 (λ j. comm-test i j)) comm-tests i hi in
+    eqb→eq (times (2 ^ i) (2 ^ j)) (times (2 ^ j) (2 ^ i)) (below 8 (comm-test i) at-i j hj)
 
 pub times-comm : (a b : ℕ) → a < 256 → b < 256 → times a b ≡ times b a
 times-comm a b ha hb =
@@ -108,8 +111,9 @@ times-comm a b ha hb =
 assoc-basis : (i j k : ℕ) → i < 8 → j < 8 → k < 8 → times (times (2 ^ i) (2 ^ j)) (2 ^ k) ≡ times (2 ^ i) (times (2 ^ j) (2 ^ k))
 unfolding assoc-test
 assoc-basis i j k hi hj hk =
-    eqb→eq (times (times (2 ^ i) (2 ^ j)) (2 ^ k)) (times (2 ^ i) (times (2 ^ j) (2 ^ k)))
-    (below 8 (assoc-test i j) (below 8 (λ j. allBelow 8 (λ k. assoc-test i j k)) (below 8 (λ i. allBelow 8 (λ j. allBelow 8 (λ k. assoc-test i j k))) assoc-tests i hi) j hj) k hk)
+    let at-i = below 8 (λ i. allBelow 8 (λ j. allBelow 8 (λ k. assoc-test i j k))) assoc-tests i hi in
+    let at-j = below 8 (λ j. allBelow 8 (λ k. assoc-test i j k)) at-i j hj in
+    eqb→eq (times (times (2 ^ i) (2 ^ j)) (2 ^ k)) (times (2 ^ i) (times (2 ^ j) (2 ^ k))) (below 8 (assoc-test i j) at-j k hk)
 
 -- (x y) z and x (y z), as functions of each variable, keep sums
 assoc₁ : (y z : ℕ) → Additive 8 (λ x. times (times x y) z)

@@ -8,7 +8,8 @@ use lib.Dec.{T, eqb, ltb, eqb→eq, ltb→lt}
 use lib.ListN.{getD}
 use Rattle.basics.specs.Lists.{allBelow}
 use Rattle.basics.proofs.Tests.{and-left, and-right, below}
-use Rattle.field.specs.Field.{twice, double, power, times}
+use Rattle.division.specs.Doubling.{twice}
+use Rattle.field.specs.Field.{double, power, times}
 use Rattle.field.proofs.Laws.{power-lt, power-add, power-255, one-times, times-zero, times-assoc}
 
 -- n entries, the first of them a, each twice the one before

@@ -6,7 +6,8 @@ use native.Mathlib.Omega.{arith}
 use lib.Arith.{le-zero}
 use lib.Dec.{lit<}
 use lib.Bits.{bitXor, bitAnd, xor-block, and-block, and-mask, and-le-r, xor-self}
-use Rattle.field.specs.Field.{double, twice}
+use Rattle.division.specs.Doubling.{twice}
+use Rattle.field.specs.Field.{double}
 use Rattle.field.specs.EachByte.{eachByte}
 
 -- n bytes, each the byte b

@@ -1,12 +1,8 @@
 -- The field of 256 elements (2.6.3.6.3; 01, "The frame on the wire"). An element is a byte: bit k is the coefficient of x^k, sums are modulo 2 (`bitXor`),
 -- and products are modulo the field polynomial x^8 + x^7 + x^2 + x + 1.
-use Prim.Native.Nat.{ℕ, zero, suc, _*_, _/_, _%_, _^_}
+use Prim.Native.Nat.{ℕ, zero, suc, _*_, _/_, _%_}
 use lib.Bits.{bitXor}
-
--- x times a, modulo a polynomial p of degree n: the number a doubled, less p where that has the bit 2^n. Numbers stand for polynomials over bits;
--- the check sums are built on it too.
-unfoldable pub twice : ℕ → ℕ → ℕ → ℕ
-twice n p a = bitXor (a * 2) (a * 2 / 2 ^ n * p)
+use Rattle.division.specs.Doubling.{twice}
 
 -- x^8 + x^7 + x^2 + x + 1
 abbrev pub fieldPolynomial : ℕ

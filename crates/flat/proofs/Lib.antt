@@ -1,1 +1,4 @@
 pub mod Packets
+pub mod StatesFit
+pub mod HeadersFit
+pub mod Exact

@@ -1,23 +1,29 @@
 -- What C gets for each answer of the library: the refusal's number, 0 for none, and the values. After a refusal the state is the one that was given,
 -- and all else is 0.
 use Rattle.header.specs.Header.{kindNumber}
-use Rattle.reading.specs.declared.ReadAnswer.{ReadAnswer}
-use Rattle.reading.specs.declared.ReadAnswer.the-variants as read
+use Rattle.header.specs.Calls.{codeNumber}
+use Rattle.header.specs.declared.CodeAnswer.{CodeAnswer}
+use Rattle.header_reading.specs.declared.ReadAnswer.{ReadAnswer}
+use Rattle.header_reading.specs.declared.ReadAnswer.the-variants as read
 use Rattle.list.specs.declared.EntryAnswer.{EntryAnswer}
 use Rattle.list.specs.declared.EntryAnswer.the-variants as entry
 use Rattle.receiving.specs.declared.ReceiveAnswer.{ReceiveAnswer}
 use Rattle.receiving.specs.declared.ReceiveAnswer.the-variants as receive
 use Rattle.sender.specs.declared.PutAnswer.{PutAnswer}
 use Rattle.sender.specs.declared.PutAnswer.the-variants as put
+use Rattle.sender.specs.declared.WaitingAnswer.{WaitingAnswer}
+use Rattle.sender.specs.declared.WaitingAnswer.the-variants as waiting
 use Rattle.sending.specs.declared.NextAnswer.{NextAnswer}
 use Rattle.sending.specs.declared.NextAnswer.the-variants as next
-use Rattle.flat_headers.specs.Headers.{flatHeader, noHeader}
-use Rattle.flat_states.specs.States.{flatSender, flatReceiver}
-use Rattle.flat_states.specs.declared.FlatReceiver.{FlatReceiver}
-use Rattle.flat_states.specs.declared.FlatSender.{FlatSender}
+use Rattle.flat.specs.Headers.{flatHeader, noHeader}
+use Rattle.flat.specs.States.{flatSender, flatReceiver}
+use Rattle.flat.specs.declared.states.FlatReceiver.{FlatReceiver}
+use Rattle.flat.specs.declared.states.FlatSender.{FlatSender}
 use Rattle.flat.specs.declared.FlatPut.{FlatPut}
+use Rattle.flat.specs.declared.FlatWaiting.{FlatWaiting}
 use Rattle.flat.specs.declared.FlatNext.{FlatNext}
 use Rattle.flat.specs.declared.FlatReceive.{FlatReceive}
+use Rattle.flat.specs.declared.FlatCode.{FlatCode}
 use Rattle.flat.specs.declared.FlatRead.{FlatRead}
 use Rattle.flat.specs.declared.FlatEntry.{FlatEntry}
 use Rattle.flat.specs.declared.FlatPacket.{FlatPacket}
@@ -25,6 +31,10 @@ use Rattle.flat.specs.declared.FlatPacket.{FlatPacket}
 abbrev pub flatPut : FlatSender → PutAnswer → FlatPut
 flatPut given (put.Taken sender) = record { sender = flatSender sender; refusal = 0 }
 flatPut given (put.Refused number) = record { sender = given; refusal = number }
+
+abbrev pub flatWaiting : WaitingAnswer → FlatWaiting
+flatWaiting (waiting.Waiting packets bytes) = record { packets = packets; bytes = bytes; refusal = 0 }
+flatWaiting (waiting.Refused number) = record { packets = 0; bytes = 0; refusal = number }
 
 abbrev pub flatNext : FlatSender → NextAnswer → FlatNext
 flatNext given (next.Sent sender kind) = record { sender = flatSender sender; kind = kindNumber kind; refusal = 0 }
@@ -40,6 +50,10 @@ flatReceive given (receive.Received header missed packets listed receiver) = rec
   refusal = 0;
 }
 flatReceive given (receive.Refused number) = record { header = noHeader; receiver = given; packets = 0; listed = 0; missed = 0; refusal = number }
+
+-- that a header was coded has no values beside the number
+abbrev pub flatCode : CodeAnswer → FlatCode
+flatCode answer = record { refusal = codeNumber answer }
 
 abbrev pub flatRead : ReadAnswer → FlatRead
 flatRead (read.Read header) = record { header = flatHeader header; refusal = 0 }

@@ -1,1 +1,4 @@
 pub mod Answers
+pub mod States
+pub mod Headers
+pub mod Messages

@@ -1,20 +1,33 @@
 // The library's answers as C has them: the refusal's number, 0 for none, beside the values. A refusal's answer has the state as it was given, and zeros
-// elsewhere.
-use flat_headers::headers;
-use flat_headers::headers::FlatHeader;
-use flat_states::FlatReceiver;
-use flat_states::FlatSender;
+// elsewhere. States, headers and messages have a module each. What C can get wrong becomes something that the library refuses by the table's number, so that
+// the order of the refusals is the library's own.
+pub mod headers;
+pub mod messages;
+pub mod states;
+
+use header::CodeAnswer;
+use header_reading::ReadAnswer;
+use headers::FlatHeader;
 use list::EntryAnswer;
-use reading::ReadAnswer;
 use receiving::ReceiveAnswer;
 use sender::PutAnswer;
+use sender::WaitingAnswer;
 use sending::NextAnswer;
+use states::FlatReceiver;
+use states::FlatSender;
 ghost use mathlib.Core.Path.{_≡_};
-ghost use Rattle.flat.specs.Answers.{flatPut, flatNext, flatReceive, flatRead, flatEntry, flatPacket};
+ghost use Rattle.flat.specs.Answers.{flatPut, flatWaiting, flatNext, flatReceive, flatCode, flatRead, flatEntry, flatPacket};
 
 #[repr(C)]
 pub struct FlatPut {
     pub sender: FlatSender,
+    pub refusal: u8,
+}
+
+#[repr(C)]
+pub struct FlatWaiting {
+    pub packets: usize,
+    pub bytes: usize,
     pub refusal: u8,
 }
 
@@ -32,6 +45,11 @@ pub struct FlatReceive {
     pub packets: usize,
     pub listed: usize,
     pub missed: u16,
+    pub refusal: u8,
+}
+
+#[repr(C)]
+pub struct FlatCode {
     pub refusal: u8,
 }
 
@@ -62,11 +80,28 @@ pub fn flat_put(given: FlatSender, answer: PutAnswer) -> FlatPut
 {
     match answer {
         PutAnswer::Taken(after) => FlatPut {
-            sender: flat_states::flat_sender(after),
+            sender: states::flat_sender(after),
             refusal: 0,
         },
         PutAnswer::Refused(number) => FlatPut {
             sender: given,
+            refusal: number,
+        },
+    }
+}
+
+pub fn flat_waiting(answer: WaitingAnswer) -> FlatWaiting
+    ensures { λ r. ⌜ r ≡ flatWaiting answer ⌝ }
+{
+    match answer {
+        WaitingAnswer::Waiting { packets, bytes } => FlatWaiting {
+            packets,
+            bytes,
+            refusal: 0,
+        },
+        WaitingAnswer::Refused(number) => FlatWaiting {
+            packets: 0,
+            bytes: 0,
             refusal: number,
         },
     }
@@ -77,7 +112,7 @@ pub fn flat_next(given: FlatSender, answer: NextAnswer) -> FlatNext
 {
     match answer {
         NextAnswer::Sent { sender, kind } => FlatNext {
-            sender: flat_states::flat_sender(sender),
+            sender: states::flat_sender(sender),
             kind: header::coding::kind_number(kind),
             refusal: 0,
         },
@@ -101,7 +136,7 @@ pub fn flat_receive(given: FlatReceiver, answer: ReceiveAnswer) -> FlatReceive
             receiver,
         } => FlatReceive {
             header: headers::flat_header(header),
-            receiver: flat_states::flat_receiver(receiver),
+            receiver: states::flat_receiver(receiver),
             packets,
             listed,
             missed,
@@ -115,6 +150,14 @@ pub fn flat_receive(given: FlatReceiver, answer: ReceiveAnswer) -> FlatReceive
             missed: 0,
             refusal: number,
         },
+    }
+}
+
+pub fn flat_code(answer: CodeAnswer) -> FlatCode
+    ensures { λ r. ⌜ r ≡ flatCode answer ⌝ }
+{
+    FlatCode {
+        refusal: headers::code_number(answer),
     }
 }
 

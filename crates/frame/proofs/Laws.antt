@@ -5,7 +5,7 @@ use Prim.Native.Nat.{ℕ, _+_}
 use lib.ListN.{length, length-append}
 use Rattle.basics.specs.Lists.{zeros}
 use Rattle.reed_solomon.proofs.Laws.{parity-length}
-use Rattle.interleaving.proofs.Interleaved.{coded-length}
+use Rattle.reed_solomon.proofs.Interleaved.{coded-length}
 use Rattle.scrambler.specs.Scrambler.{scrambled}
 use Rattle.scrambler.proofs.Laws.{scrambled-length}
 use Rattle.header.specs.Header.{headerBytes}

@@ -5,7 +5,7 @@ use Rattle.basics.specs.Lists.{zeros}
 use Rattle.basics.specs.Numbers.{highFirst}
 use Rattle.crc.specs.Crc.{crc-32}
 use Rattle.reed_solomon.specs.Code.{parity}
-use Rattle.interleaving.specs.Payload.{codedPayload}
+use Rattle.reed_solomon.specs.Payload.{codedPayload}
 use Rattle.scrambler.specs.Scrambler.{scrambled}
 use Rattle.header.specs.Header.{headerBytes}
 use Rattle.header.specs.declared.Header.{Header}

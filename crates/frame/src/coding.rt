@@ -1,5 +1,6 @@
 // The parts of a frame that is built.
 use header::Header;
+use reed_solomon::interleaving;
 ghost use mathlib.Core.Path.{_≡_};
 ghost use mathlib.Core.List.{_++_};
 ghost use Prim.Native.Nat.{_+_, _≤_};

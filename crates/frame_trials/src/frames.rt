@@ -3,10 +3,11 @@
 ghost use Prim.Native.Nat.{_≤_};
 ghost use lib.ListN.{length};
 use basics::sizes;
-use header_fields::fields;
-use lent_bytes::Lent;
+use header_trials::fields;
 use opening::OpenAnswer;
 use outcome::Outcome;
+use vectors::lent_bytes;
+use vectors::lent_bytes::Lent;
 use vectors::numbers;
 
 // No frame yet.

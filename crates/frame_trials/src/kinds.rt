@@ -1,7 +1,7 @@
 // The kinds of record that try whole frames, 13 to 15, and the function that tries each.
 use crate::frames;
-use lent_bytes::Lent;
 use outcome::Outcome;
+use vectors::lent_bytes::Lent;
 
 pub fn outcome(kind: u8, body: &[u8], at_hand: &mut Lent) -> Outcome {
     match kind {

@@ -1,13 +1,13 @@
 // The kinds of record that try the level and the bare header.
-use flat_headers::headers;
-use header_fields::fields;
+use crate::fields;
+use flat::headers;
+use header_reading::ReadAnswer;
 use outcome::Outcome;
-use reading::ReadAnswer;
 use vectors::numbers;
 
 // How far the level of a code lies below 0.
 fn below_zero(code: u8) -> u32 {
-    (0 - level::level(code)) as u32
+    (0 - fast_channel::level(code)) as u32
 }
 
 // A code, and how far its level lies below 0, in four bytes.
@@ -63,6 +63,6 @@ pub fn read(body: &[u8]) -> Outcome {
         return Outcome::Malformed;
     }
     let end = body.len() - 25;
-    let found = read_bytes(reading::read_header(&body[0..end]));
+    let found = read_bytes(header_reading::read_header(&body[0..end]));
     outcome::of(&found, &body[end..])
 }

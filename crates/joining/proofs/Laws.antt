@@ -13,7 +13,7 @@ use Rattle.link.proofs.Reassembly.{Filled}
 use Rattle.packing.specs.Rules.{recordsBytes}
 use Rattle.packing.specs.Records.{readFrom, read}
 use Rattle.packing.proofs.Records.{lies, read-piece, piece-length, read-shape}
-use Rattle.fitting.proofs.First.{from-start}
+use Rattle.joining.proofs.First.{from-start}
 use Rattle.link.proofs.Store.{lists-append}
 use Rattle.joining.proofs.Pieces.{step-size}
 

@@ -1,3 +1,5 @@
 pub mod Pieces
 pub mod Reached
 pub mod Laws
+pub mod First
+pub mod Grown

@@ -8,7 +8,7 @@ use lib.ListN.{length, length-append}
 use Rattle.link.specs.Link.{Piece, onPiece, fits}
 use Rattle.link.specs.Store.{layoutPackets}
 use Rattle.link.proofs.Hold.{AllFirst, Shape, held-bound}
-use Rattle.fitting.proofs.First.{fits-first}
+use Rattle.joining.proofs.First.{fits-first}
 
 -- a packet takes two bytes more in the list than its pieces
 pub step-size : (held : List ℕ) (first last : Bool) (bytes : List ℕ)

@@ -17,9 +17,9 @@ use Rattle.packing.specs.declared.Record.{Record}
 use Rattle.packing.specs.declared.Found.the-variants.{At, End, Against}
 use Rattle.packing.specs.Records.{recordAt, pieceOf, withPiece, readFrom, read}
 use Rattle.packing.proofs.Records.{Lies, lies, piece-length, read-record, read-end, read-against, read-shape}
-use Rattle.fitting.proofs.First.{from-start, part-is}
-use Rattle.growing.specs.declared.Joined.{Joined}
-use Rattle.growing.specs.Growing.{Ready, StepOutcome}
+use Rattle.joining.proofs.First.{from-start, part-is}
+use Rattle.joining.specs.declared.growing.Joined.{Joined}
+use Rattle.joining.specs.Growing.{Ready, StepOutcome}
 use Rattle.joining.specs.Joining.{Joinable, JoinOutcome}
 use Rattle.link.proofs.Store.{lists-append}
 use Rattle.joining.proofs.Pieces.{step-size, step-few, step-last, step-held, first-fits-any, first-shape}
@@ -193,7 +193,8 @@ module _ {area : List ℕ} {before : ℕ} {hold₀ list₀ hold list : List ℕ}
           ∙ written-append list₀ 0 d o (omega (arith, size, out .listed, r .listed, r .area-long, lie .inside))
           ∙ ap (written list₀ 0) (sym (lists-append (r .done) (step′ .out)))
 
-      step-next : onPieces (take before hold₀) (r .all) ≡ stepThen (record { held = []; out = r .done ++ step′ .out }) (onPieces (take (next .held) hold′) (behind .pieces))
+      step-next : onPieces (take before hold₀) (r .all)
+          ≡ stepThen (record { held = []; out = r .done ++ step′ .out }) (onPieces (take (next .held) hold′) (behind .pieces))
       step-next =
           let after = onPieces (step′ .held) (behind .pieces) in
           r .step
@@ -218,10 +219,14 @@ module _ {area : List ℕ} {before : ℕ} {hold₀ list₀ hold list : List ℕ}
             held-low = omega (arith, out .held, below);
             hold-long = ap length (out .hold-bytes) ∙ written-length hold 0 (step′ .held) (omega (arith, below, r .hold-long)) ∙ r .hold-long;
             hold-is = hold-next ∙ ap (written hold₀ 0) (sym held-next);
-            hold-kept = λ h. hold-next ∙ ap (written hold₀ 0) (step-last (take (joined .held) hold) (found .first) (found .last) bytes (last-set h)) ∙ written-nothing hold₀ 0;
+            hold-kept = λ h.
+                hold-next ∙ ap (written hold₀ 0) (step-last (take (joined .held) hold) (found .first) (found .last) bytes (last-set h))
+                ∙ written-nothing hold₀ 0;
             list-is = list-next;
             packets = omega (arith, out .packets, r .packets, length-append (r .done) (step′ .out));
-            listed = omega (arith, out .listed, r .listed, ap length (lists-append (r .done) (step′ .out)), length-append (layoutPackets (r .done)) (layoutPackets (step′ .out)));
+            listed =
+                let more = length-append (layoutPackets (r .done)) (layoutPackets (step′ .out)) in
+                omega (arith, out .listed, r .listed, ap length (lists-append (r .done) (step′ .out)), more);
             room = size;
             few = omega (arith, out .packets, step-few (take (joined .held) hold) (found .first) (found .last) bytes, r .few, lie .start);
           }

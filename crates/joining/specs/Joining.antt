@@ -1,4 +1,4 @@
--- What the code does with the records of a DATA area that is not refused: the contract of the loop that joins them, over `StepOutcome` of crate growing.
+-- What the code does with the records of a DATA area that is not refused: the contract of the loop that joins them, over `StepOutcome` of Growing.
 -- Whoever reads `ApplyOutcome` of crate receiver need not believe anything here.
 use mathlib.Core.Path.{_≡_}
 use mathlib.Core.Bool.{true}
@@ -9,8 +9,8 @@ use lib.ListN.{length, take}
 use Rattle.basics.specs.Sizes.{mostHeld, holdSize, listSize}
 use Rattle.link.specs.Link.{Piece, fits, onPieces}
 use Rattle.packing.specs.Records.{read}
-use Rattle.growing.specs.declared.Joined.{Joined}
-use Rattle.growing.specs.Growing.{StepOutcome}
+use Rattle.joining.specs.declared.growing.Joined.{Joined}
+use Rattle.joining.specs.Growing.{StepOutcome}
 
 -- before the first record: so much is held, and no packet is listed
 abbrev pub unjoined : ℕ → Joined

@@ -1,4 +1,7 @@
-// Joining the records of a DATA area to what is held, one after the other (01, "Receiving").
+// Joining the records of a DATA area to what is held, one after the other (01, "Receiving"). `fitting` judges the first before, `growing` joins each.
+pub mod fitting;
+pub mod growing;
+
 use growing::Joined;
 use packing::Found;
 ghost use Rattle.joining.specs.Joining.{Joinable, JoinOutcome};

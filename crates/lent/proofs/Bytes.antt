@@ -56,7 +56,8 @@ bytes-append (x ∷ xs) ys = ap (λ (l : List ℕ). lowFirst 8 x ++ l) (bytes-ap
 pub bytes-at : (numbers : List ℕ) (j k : ℕ) → k < 8 → getD (bytesOf numbers) (8 * j + k) 0 ≡ byteAt k (getD numbers j 0)
 unfolding bytesOf
 bytes-at [] j k h = sym (byte-zero k)
-bytes-at (x ∷ xs) zero k h = ap (λ (i : ℕ). getD (lowFirst 8 x ++ bytesOf xs) i 0) (zero-add k) ∙ List·getD-append (lowFirst 8 x) (bytesOf xs) 0 k h ∙ low-at 8 k x h
+bytes-at (x ∷ xs) zero k h =
+    ap (λ (i : ℕ). getD (lowFirst 8 x ++ bytesOf xs) i 0) (zero-add k) ∙ List·getD-append (lowFirst 8 x) (bytesOf xs) 0 k h ∙ low-at 8 k x h
 bytes-at (x ∷ xs) (suc j) k h =
     let e : 8 * suc j + k ≡ 8 + (8 * j + k) = omega arith in
     ap (λ (i : ℕ). getD (lowFirst 8 x ++ bytesOf xs) i 0) e ∙ getD-append-add (lowFirst 8 x) (bytesOf xs) (8 * j + k) 0 ∙ bytes-at xs j k h

@@ -5,7 +5,8 @@ use Prim.Native.Nat.{ℕ, _+_, _-_, _≤_, _<_}
 use native.Mathlib.Nat.{add-assoc, add-zero, zero-add}
 use native.Mathlib.Omega.{arith}
 use lib.ListN.{length, getD, take, drop, length-take, length-drop, length-append, drop-of-length-le, take-append-drop, List·getD-append}
-use lib.Seq.{take-append-le, take-append-add, drop-append-le, drop-append-add, getD-append-add, getD-drop, getD-take, take-at, drop-at, drop-drop, drop-length, take-length, take-all, length-take-le}
+use lib.Seq.{take-append-le, take-append-add, drop-append-le, drop-append-add, getD-append-add, getD-drop, getD-take}
+use lib.Seq.{take-at, drop-at, drop-drop, drop-length, take-length, take-all, length-take-le}
 use Rattle.basics.specs.Lists.{Bytes}
 use Rattle.basics.proofs.Lists.{bytes-append, bytes-take, bytes-drop}
 use Rattle.lent.specs.Written.{written}
@@ -52,7 +53,8 @@ module _ (d : List ℕ) (at : ℕ) (s : List ℕ) (h : at + length s ≤ length 
       ∙ getD-append-add (take at d ++ s) (drop (at + length s) d) k 0 ∙ getD-drop (at + length s) d k 0 ∙ ap (λ (n : ℕ). getD d n 0) e
 
 -- one part after the other
-pub written-append : (d : List ℕ) (at : ℕ) (s t : List ℕ) → at + length s + length t ≤ length d → written (written d at s) (at + length s) t ≡ written d at (s ++ t)
+pub written-append : (d : List ℕ) (at : ℕ) (s t : List ℕ) → at + length s + length t ≤ length d
+    → written (written d at s) (at + length s) t ≡ written d at (s ++ t)
 unfolding written
 written-append d at s t h =
     ap (λ l. l ++ t ++ drop (at + length s + length t) (written d at s)) (take-written d at s (omega arith))
@@ -65,7 +67,8 @@ pub copied-part : (d : List ℕ) (at : ℕ) (s : List ℕ) → at + length s ≤
 unfolding written
 copied-part d at s h =
     let e : length (drop at d) ≤ length d - at = simp length-drop (omega arith) in
-    rw (take-length s, take-all (length d - at) (drop at d) e, drop-of-length-le (drop at d) {i = length d - at} e, append-nil, drop-drop) (sym (append-assoc (take at d) s (drop (at + length s) d)))
+    rw (take-length s, take-all (length d - at) (drop at d) e, drop-of-length-le (drop at d) {i = length d - at} e, append-nil, drop-drop)
+    (sym (append-assoc (take at d) s (drop (at + length s) d)))
 
 -- as many bytes as the buffer has
 pub written-whole : (d s : List ℕ) → length s ≡ length d → written d 0 s ≡ s
@@ -106,7 +109,8 @@ unfolding written
 written-own-behind d m j h =
     let t = take j (drop (length m) d) in
     let long : length t ≡ j = simp (length-take, length-drop) (omega arith) in
-    rw (zero-add, zero-add, length-append m t, long, ← drop-drop j (length m) d) (append-assoc m t (drop j (drop (length m) d)) ∙ ap (λ (l : List ℕ). m ++ l) (take-append-drop j (drop (length m) d)))
+    rw (zero-add, zero-add, length-append m t, long, ← drop-drop j (length m) d)
+    (append-assoc m t (drop j (drop (length m) d)) ∙ ap (λ (l : List ℕ). m ++ l) (take-append-drop j (drop (length m) d)))
 
 -- written into the first of two lists, one behind the other
 pub written-left : (b a : List ℕ) (at : ℕ) (s : List ℕ) → at + length s ≤ length b → written (b ++ a) at s ≡ written b at s ++ a

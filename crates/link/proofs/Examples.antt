@@ -60,7 +60,8 @@ meets = demand3 two calls oneLost (omega arith) within
 -- Of every run in which all is sent: the ledger has the packets put, in their order.
 all-in-turn : (load : Queue → ℕ) (run : List Call) (mark : ℕ → Mark) → ArePackets (putsOf run) → Limit mark
     → unsent (framesOf load empty run) (queueAfter load empty run) ≡ [] → map packetOf (ledger (framesOf load empty run)) ≡ putsOf run
-all-in-turn load run mark allowed limit e = sym (append-nil (map packetOf (ledger (framesOf load empty run)))) ∙ rw e at (demand3 load run mark allowed limit .in-order)
+all-in-turn load run mark allowed limit e =
+    sym (append-nil (map packetOf (ledger (framesOf load empty run)))) ∙ rw e at (demand3 load run mark allowed limit .in-order)
 
 -- After frame 0 with a first piece, 65,535 lost frames are seen ..
 abbrev holding : Receiver

@@ -36,7 +36,9 @@ module _ (mark : ℕ → Mark) where
   means from (suc n) e j a b = go (ℕ-discrete j n) (means from n (right-true (ltb n from || byMark (mark n) false true) (unbroken mark from n) e) j a)
     where
       go : Dec (j ≡ n) → (j < n → mark j ≡ accepted) → mark j ≡ accepted
-      go (yes z) r = rw z (is-accepted (mark n) (rw (le-ltb n from (omega arith)) at (left-true (ltb n from || byMark (mark n) false true) (unbroken mark from n) e)))
+      go (yes z) r =
+          rw z (is-accepted (mark n)
+          (rw (le-ltb n from (omega arith)) at (left-true (ltb n from || byMark (mark n) false true) (unbroken mark from n) e)))
       go (no z) r = r (omega arith)
 
   holds : (from n : ℕ) → ((j : ℕ) → from ≤ j → j < n → mark j ≡ accepted) → unbroken mark from n ≡ true

@@ -39,7 +39,8 @@ module _ (packing : Packing) where
       of : Option (List ℕ) → List Packet → Queue
       of rest ps = record { rest = rest; waiting = ps }
 
-      go : (rest : Option (List ℕ)) (ps : List Packet) → IsQueue (of rest ps) → piecesIn (frameFor (of rest ps)) ≡ some (cut (packing .load (of rest ps)) (of rest ps) .pieces)
+      go : (rest : Option (List ℕ)) (ps : List Packet) → IsQueue (of rest ps)
+          → piecesIn (frameFor (of rest ps)) ≡ some (cut (packing .load (of rest ps)) (of rest ps) .pieces)
       go none [] k = refl
       go none (p ∷ ps) k = packing .read-back (of none (p ∷ ps)) k refl
       go (some r) ps k = packing .read-back (of (some r) ps) k refl

@@ -67,7 +67,12 @@ cut-sends i n (some g) (some r) ps k h = go (leb (length r) n) refl (waiting-sen
         → Sends i (some g) ((g .sent ++ r) ∷ ps) (cond b
         (pieceThen (record { first = false; last = true; bytes = r }) (cutWaiting (n - length r) ps))
         (cutRest n r ps))
-    go true e s = record { filled = (k .2, s .filled); tied = s .tied; packets = s .packets; ordered = ap (λ (l : List Packet). (g .sent ++ r) ∷ l) (s .ordered) }
+    go true e s = record {
+      filled = (k .2, s .filled);
+      tied = s .tied;
+      packets = s .packets;
+      ordered = ap (λ (l : List Packet). (g .sent ++ r) ∷ l) (s .ordered);
+    }
     go false e s = rest-sends i n g r ps (leb-false (length r) n e) k h
 
 -- ---- each frame fits what a receiver holds that lost nothing: refusal 15 is never given

@@ -1,35 +1,16 @@
 -- The answer of `entry`, case by case, and the part that `packet` hands back.
 use mathlib.Core.Path.{_≡_, refl}
-use mathlib.Core.Bool.{Bool, true, false, cond}
 use mathlib.Core.List.{List, []}
 use Prim.Native.Nat.{ℕ, _+_, _-_}
-use lib.Dec.{eqb}
 use native.Mathlib.Omega.{arith}
 use lib.ListN.{length, take, drop}
 use borrow.Author.Tests.{eq-eqb, ne-eqb}
 use Rattle.lent.specs.Refusals.{firstOf, by}
-use Rattle.lent.proofs.Refusals.{numbered}
-use Rattle.list.specs.Entries.{lengthAt, entryRefusal, foundAt, entryAnswer, entryNumber, packetAt, placeAt, PacketOutcome}
+use Rattle.list.specs.Entries.{lengthAt, entryRefusal, entryAnswer, packetAt, placeAt, PacketOutcome}
 use Rattle.list.specs.declared.EntryAnswer.the-variants.{Packet, End, Refused}
 
+-- ---- the answer, case by case
 module _ (list : List ℕ) (position : ℕ) where
-  -- what stands at a position is no refusal
-  none-found : entryNumber (foundAt list position) ≡ 0
-  none-found = go (eqb position (length list))
-    where
-      n : ℕ
-      n = lengthAt list position
-
-      go : (t : Bool) → entryNumber (cond t End (Packet (position + 2) n (position + 2 + n))) ≡ 0
-      go true = refl
-      go false = refl
-
-  -- the answer's number is the one that it was made for
-  pub entry-numbers : entryNumber (entryAnswer list position) ≡ entryRefusal list position
-  unfolding entryAnswer
-  entry-numbers = numbered entryNumber (foundAt list position) (λ n. Refused n) none-found (λ n. refl) (entryRefusal list position)
-
-  -- ---- the answer, case by case
   pub at-end : position ≡ length list → End ≡ entryAnswer list position
   unfolding entryAnswer entryRefusal firstOf by
   at-end e = rw (eq-eqb position (length list) e)

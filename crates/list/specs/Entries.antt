@@ -34,7 +34,7 @@ foundAt list position =
     let n = lengthAt list position in
     cond (eqb position (length list)) answer.End (answer.Packet (position + 2) n (position + 2 + n))
 
--- The paper's number for each case of the answer (01, last section), and the case for a number: `entry-numbers` in proofs/Calls.antt ties the two.
+-- The paper's number for each case of the answer (01, last section), and the case for a number; demand 1 of crate demands ties the two.
 abbrev pub entryNumber : EntryAnswer → ℕ
 entryNumber (answer.Packet start length next) = 0
 entryNumber answer.End = 0

@@ -30,7 +30,8 @@ module _ (queue : List ℕ) (start used : ℕ) where
       let passed = ring-passed queue start used e in
       let waits = usedIn queue start used in
       let waits-bytes = bytes-take used (roundFrom start queue) (round-bytes start queue bytes) in
-      (passed .within, passed .most, (waitingIn queue start used, parse-iff waits (waitingIn queue start used) waits-bytes .0 (whole-parsed waits (passed .whole))))
+      let are = parse-iff waits (waitingIn queue start used) waits-bytes .0 (whole-parsed waits (passed .whole)) in
+      (passed .within, passed .most, (waitingIn queue start used, are))
 
   parsed-so : (q : Queue) → IsQueue q → layout q ≡ usedIn queue start used → parse (usedIn queue start used) ≡ some q
   parsed-so q is-queue laid = ap parse (sym laid) ∙ parse-back q is-queue

@@ -3,3 +3,4 @@ pub mod Parsed
 pub mod Used
 pub mod Round
 pub mod Exactly
+pub mod Counting

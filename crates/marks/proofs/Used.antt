@@ -25,7 +25,8 @@ module _ (queue : List ℕ) (start used : ℕ) (u : used ≤ length queue) where
       → markAt (drop at (roundFrom start queue)) ≡ markFrom (usedIn queue start used) at
   used-mark at h =
       mark-from (roundFrom start queue) at
-      ∙ sym (ap₂ (λ (x y : ℕ). x * 256 + y) (getD-take used (roundFrom start queue) at 0 (omega arith)) (getD-take used (roundFrom start queue) (at + 1) 0 (omega arith)))
+      ∙ sym (ap₂ (λ (x y : ℕ). x * 256 + y) (getD-take used (roundFrom start queue) at 0 (omega arith))
+      (getD-take used (roundFrom start queue) (at + 1) 0 (omega arith)))
 
 -- The used bytes as parts of the buffer: one, or one up to its end and one behind it.
 module _ (queue : List ℕ) (start used : ℕ) (s : start ≤ length queue) where

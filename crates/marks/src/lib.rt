@@ -1,8 +1,10 @@
 // Marks: the two bytes, high byte first, before a packet in the queue and in the list and before a record in an area. And whether the queue's ring is whole,
 // judged mark by mark.
+pub mod records;
+
 use basics::sizes;
 ghost use mathlib.Core.Path.{_≡_};
-ghost use mathlib.Core.Bool.{_&&_};
+ghost use mathlib.Core.Bool.{true, _&&_};
 ghost use mathlib.Core.List.{[]};
 ghost use Prim.Native.Nat.{_+_, _*_, _≤_, _<_};
 ghost use lib.Dec.{leb};
@@ -12,7 +14,7 @@ ghost use Rattle.link.specs.Store.{marked};
 ghost use Rattle.basics.specs.Lists.{isSome};
 ghost use Rattle.link.specs.Parsing.{markAt, packetsIn, isWhole};
 ghost use Rattle.ring.specs.Ring.{roundFrom};
-ghost use Rattle.marks.specs.Queue.{usedIn, isRingWhole};
+ghost use Rattle.marks.specs.Queue.{usedIn, isRingWhole, waitingIn, packetCount};
 ghost use Rattle.marks.specs.Walk.{behindPacket, overEnd, LeadsOn};
 
 // The two bytes of a mark, high byte first.
@@ -155,4 +157,19 @@ pub fn is_ring_whole(queue: &[u8], start: usize, used: usize) -> bool
         return false;
     }
     is_whole(queue, start, used)
+}
+
+// How many packets wait in a ring that is whole, one that is begun among them: from mark to mark, without the bit that tells that one is begun.
+pub fn packets_waiting(queue: &[u8], start: usize, used: usize) -> usize
+    requires { ⌜ (length (now queue) ≡ queueSize) × (isRingWhole (now queue) start used ≡ true) ⌝ }
+    ensures { λ r. ⌜ r ≡ packetCount (waitingIn (now (queue .entry)) start used) ⌝ }
+{
+    let mut packets: usize = 0;
+    let mut at: usize = 0;
+    while at < used {
+        let mark = mark_round(queue, start, at);
+        at = at + 2 + mark % sizes::BEGUN_BIT;
+        packets = packets + 1;
+    }
+    packets
 }

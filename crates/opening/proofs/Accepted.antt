@@ -12,14 +12,14 @@ use Rattle.basics.proofs.Tests.{same-true}
 use Rattle.basics.proofs.Lists.{bytes-take, bytes-drop}
 use Rattle.lent.specs.Refusals.{firstOf}
 use Rattle.reed_solomon.specs.Code.{parity, lengthened}
-use Rattle.interleaving.specs.Payload.{codedPayload}
+use Rattle.reed_solomon.specs.Payload.{codedPayload}
 use Rattle.reed_solomon.proofs.Laws.{parity-zeros, true-codeword, of-shorter}
-use Rattle.interleaving.proofs.Interleaved.{true-codewords, codewords-coded}
+use Rattle.reed_solomon.proofs.Interleaved.{true-codewords, codewords-coded}
 use Rattle.scrambler.specs.Scrambler.{scrambled}
 use Rattle.scrambler.proofs.Laws.{scrambled-twice, scrambled-bytes}
 use Rattle.header.specs.Header.{headerBytes, headerFits}
-use Rattle.reading.specs.Reading.{headerOf}
-use Rattle.reading.proofs.Received.{received-fits, header-again}
+use Rattle.header_reading.specs.Reading.{headerOf}
+use Rattle.header_reading.proofs.Received.{received-fits, header-again}
 use Rattle.frame.specs.Frame.{codedHeader, areaCheck, areaPayload, frameBytes}
 use Rattle.opening.specs.Opening.{unscrambled, headerPart, areaPart, areaChecked, frameTable, openedHeader, openedArea}
 use Rattle.opening.proofs.Laws.{Passed, frame-passed, unscrambled-length}

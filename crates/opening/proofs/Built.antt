@@ -11,16 +11,16 @@ use Rattle.basics.specs.Lists.{zeros, same}
 use Rattle.basics.proofs.Tests.{same-self}
 use Rattle.lent.specs.Refusals.{firstOf}
 use Rattle.reed_solomon.specs.Code.{parity, isCodeword, lengthened}
-use Rattle.interleaving.specs.Payload.{areCodewords}
+use Rattle.reed_solomon.specs.Payload.{areCodewords}
 use Rattle.reed_solomon.proofs.Laws.{parity-zeros, codeword-true, coded}
-use Rattle.interleaving.proofs.Interleaved.{codewords-true, coded-codewords, coded-front}
+use Rattle.reed_solomon.proofs.Interleaved.{codewords-true, coded-codewords, coded-front}
 use Rattle.scrambler.specs.Scrambler.{tapsAllowed, scrambled}
 use Rattle.scrambler.proofs.Laws.{scrambled-twice}
 use Rattle.header.specs.Header.{headerBytes, headerFits}
-use Rattle.reading.specs.Reading.{headerOf, headerTable}
+use Rattle.header_reading.specs.Reading.{headerOf, headerTable}
 use Rattle.header.specs.declared.Header.{Header}
 use Rattle.header.proofs.Bytes.{header-length}
-use Rattle.reading.proofs.Sent.{sendable, header-back, none-refused}
+use Rattle.header_reading.proofs.Sent.{sendable, header-back, none-refused}
 use Rattle.frame.specs.Frame.{preamble, codedHeader, areaCheck, areaPayload, frameBytes}
 use Rattle.frame.proofs.Laws.{payload-length, data-length, coded-header-length, body-length}
 use Rattle.opening.specs.Opening.{unscrambled, headerPart, areaPart, areaChecked, frameTable, openRefusal, openedHeader, openedArea}
@@ -100,7 +100,9 @@ module _ (taps : ℕ) (header : Header) (area : List ℕ) (long : length area �
       frame-passes taps frame record {
         begins = frame-front;
         header-word = ap (λ (l : List ℕ). isCodeword (lengthened (take 32 l))) frame-body ∙ header-codeword;
-        header-read = ap (λ (l : List ℕ). firstOf (headerTable (headerPart l))) frame-body ∙ ap (λ (l : List ℕ). firstOf (headerTable l)) body-fields ∙ none-refused header (sendable header h);
+        header-read = ap (λ (l : List ℕ). firstOf (headerTable (headerPart l))) frame-body
+            ∙ ap (λ (l : List ℕ). firstOf (headerTable l)) body-fields
+            ∙ none-refused header (sendable header h);
         payload-words = ap (λ (l : List ℕ). areCodewords (drop 32 l)) frame-body ∙ payload-codewords;
         checked = ap areaChecked frame-body ∙ area-checked;
       }

@@ -11,10 +11,10 @@ use Rattle.basics.proofs.Tests.{left-true, right-true, same-true, same-self}
 use Rattle.lent.specs.Refusals.{Row, _unless_, firstOf}
 use Rattle.lent.proofs.Refusals.{unless-passed, first-earlier, first-later, both-passed}
 use Rattle.reed_solomon.specs.Code.{isCodeword, lengthened}
-use Rattle.interleaving.specs.Payload.{areCodewords}
+use Rattle.reed_solomon.specs.Payload.{areCodewords}
 use Rattle.scrambler.specs.Scrambler.{tapsAllowed}
 use Rattle.scrambler.proofs.Laws.{scrambled-length}
-use Rattle.reading.specs.Reading.{headerTable}
+use Rattle.header_reading.specs.Reading.{headerTable}
 use Rattle.frame.specs.Frame.{preamble}
 use Rattle.opening.specs.Opening.{unscrambled, headerPart, areaChecked, bodyTable, frameTable, openTable, openRefusal}
 

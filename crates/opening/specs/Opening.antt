@@ -10,9 +10,9 @@ use Rattle.basics.specs.Sizes.{areaSize, frameSize}
 use Rattle.lent.specs.Refusals.{Row, _unless_, firstOf, by, answerBy}
 use Rattle.lent.specs.Written.{written}
 use Rattle.reed_solomon.specs.Code.{isCodeword, lengthened}
-use Rattle.interleaving.specs.Payload.{areCodewords}
+use Rattle.reed_solomon.specs.Payload.{areCodewords}
 use Rattle.scrambler.specs.Scrambler.{tapsAllowed, scrambled}
-use Rattle.reading.specs.Reading.{headerOf, headerTable}
+use Rattle.header_reading.specs.Reading.{headerOf, headerTable}
 use Rattle.header.specs.declared.Header.{Header}
 use Rattle.frame.specs.Frame.{preamble, areaCheck}
 use Rattle.opening.specs.declared.OpenAnswer.{OpenAnswer}

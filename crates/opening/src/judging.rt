@@ -1,5 +1,6 @@
 // What is asked of a frame that arrived, in the order of the refusals' numbers.
 use basics::sizes;
+use reed_solomon::interleaving;
 ghost use mathlib.Core.Path.{_≡_};
 ghost use lib.ListN.{length, take};
 ghost use Rattle.basics.specs.Sizes.{frameSize};
@@ -52,7 +53,7 @@ pub fn inner_refusal(body: &[u8]) -> u8
     if !reed_solomon::is_codeword(&body[..32]) {
         return 8;
     }
-    let number = reading::header_refusal(&body[..16]);
+    let number = header_reading::header_refusal(&body[..16]);
     if number != 0 {
         return number;
     }

@@ -29,7 +29,7 @@ pub fn open(taps: u32, frame: &[u8], area: &mut [u8]) -> OpenAnswer
     if inner != 0 {
         return OpenAnswer::Refused(inner);
     }
-    OpenAnswer::Opened(reading::header_of(&body[..16]))
+    OpenAnswer::Opened(header_reading::header_of(&body[..16]))
 }
 
 // Writes the area that follows the coded header to the front of the buffer, where the frame is not refused.

@@ -50,7 +50,8 @@ module _ (area : List ℕ) (pieces : List Piece) (a : Allowed area pieces) where
       positive (p ∷ l) h = omega (arith, sizes-cons p l)
   packed-behind before (p ∷ ps) e =
       let lengths = a .lengths before ps p e in
-      let total : sizes pieces ≡ sizes before + (size p + sizes ps) = ap sizes e ∙ sizes-append before (p ∷ ps) ∙ ap (λ n. sizes before + n) (sizes-cons p ps) in
+      let total : sizes pieces ≡ sizes before + (size p + sizes ps) =
+      ap sizes e ∙ sizes-append before (p ∷ ps) ∙ ap (λ n. sizes before + n) (sizes-cons p ps) in
       let step : sizes (before ++ p ∷ []) ≡ sizes before + size p = omega (arith, sizes-append before (p ∷ []), sizes-cons p []) in
       let less : 1908 - sizes (before ++ p ∷ []) ≡ 1908 - sizes before - size p = omega (arith, step) in
       let more = packed-behind (before ++ p ∷ []) ps (e ∙ sym (append-snoc before p ps)) in (
@@ -80,13 +81,18 @@ record Among (at room : ℕ) (before : List Piece) (p : Piece) (after : List Pie
 among : (before after : List Piece) (p : Piece) (at room : ℕ) → Packed at room (before ++ p ∷ after) → Among at room before p after
 among [] after p at room k = record {
   sound = moved p at (at + 0) room (room - 0) (omega arith) (omega arith) (k .0);
-  later = λ at′ room′ e f. rw (e, f) (let g : at + 0 + size p ≡ at + size p = omega arith in let i : room - 0 - size p ≡ room - size p = omega arith in rw (g, i) (k .1));
+  later = λ at′ room′ e f.
+      let g : at + 0 + size p ≡ at + size p = omega arith in
+      let i : room - 0 - size p ≡ room - size p = omega arith in
+      rw (e, f) (rw (g, i) (k .1));
 }
 among (q ∷ before) after p at room k =
     let m = among before after p (at + size q) (room - size q) (k .1) in
     let c = sizes-cons q before in
     record {
-      sound = moved p (at + size q + sizes before) (at + sizes (q ∷ before)) (room - size q - sizes before) (room - sizes (q ∷ before)) (omega (arith, c)) (omega (arith, c)) (m .sound);
+      sound =
+          moved p (at + size q + sizes before) (at + sizes (q ∷ before)) (room - size q - sizes before) (room - sizes (q ∷ before))
+          (omega (arith, c)) (omega (arith, c)) (m .sound);
       later = λ at′ room′ e f. m .later at′ room′ (omega (arith, c, e)) (omega (arith, c, f));
     }
 

@@ -3,10 +3,11 @@ use mathlib.Core.Path.{_≡_, refl}
 use mathlib.Core.Option.{none}
 use mathlib.Core.List.{_∷_}
 use Rattle.basics.specs.Lists.{zeros}
-use Rattle.record_marks.specs.Mark.{mayBegin, mayEnd, isMark}
+use Rattle.marks.specs.Mark.{mayBegin, mayEnd, isMark}
 use Rattle.packing.specs.Records.{endAt, recordAt, readFrom, read}
 
--- zeros only; 80 00, which is no mark of 0; a record without "last" that does not end the area; one behind another that lacks "first"; a byte behind the records
+-- zeros only; 80 00, which is no mark of 0; a record without "last" that does not end the area; one behind another that lacks "first";
+-- a byte behind the records
 no-record : read (zeros 1908) ≡ none
 unfolding read readFrom recordAt endAt isMark mayBegin mayEnd
 no-record = refl

@@ -23,7 +23,8 @@ module _ (room : ℕ) (first : Bool) (bytes : List ℕ) (packets : List Packet) 
   front-whole h = rw (le-leb (2 + length bytes) room h)
 
   pub front-part : room < 2 + length bytes
-      → fillFront room first bytes packets more ≡ cutLast (record { first = first; last = false; bytes = take (room - 2) bytes }) (drop (room - 2) bytes) packets
+      → fillFront room first bytes packets more
+      ≡ cutLast (record { first = first; last = false; bytes = take (room - 2) bytes }) (drop (room - 2) bytes) packets
   front-part h = rw (lt-leb (2 + length bytes) room h)
 
 pub waiting-front : (room : ℕ) (p : Packet) (ps : List Packet) → shortest ≤ room
@@ -81,7 +82,8 @@ waiting-cut room (p ∷ ps) a = go (decLe shortest room) (waiting-cut (room - (2
     more : Cut
     more = fillWaiting (room - (2 + length p)) ps
 
-    go : Dec (shortest ≤ room) → cutWaiting (bytesIn (more .pieces)) ps ≡ more → cutWaiting (bytesIn (fillWaiting room (p ∷ ps) .pieces)) (p ∷ ps) ≡ fillWaiting room (p ∷ ps)
+    go : Dec (shortest ≤ room) → cutWaiting (bytesIn (more .pieces)) ps ≡ more
+        → cutWaiting (bytesIn (fillWaiting room (p ∷ ps) .pieces)) (p ∷ ps) ≡ fillWaiting room (p ∷ ps)
     go (yes y) f = rw (waiting-front room p ps y) (front-cut room true p ps more (λ n. cutWaiting n ps) (λ n. cutPacket n p ps) y f (λ n. refl))
     go (no y) f = rw (waiting-full room (p ∷ ps) (omega arith), lt-leb (length p) 0 (a .0 .0))
 
@@ -89,7 +91,8 @@ pub fill-cut : (q : Queue) → IsQueue q → fill 1908 q ≡ cut (load q) q
 unfolding load
 fill-cut q h = sym (go (q .rest) (q .waiting) (h .0) (h .1))
   where
-    go : (rest : Option (List ℕ)) (ps : List Packet) → IsRest rest → ArePackets ps → cutFrom (bytesIn (fillFrom 1908 rest ps .pieces)) rest ps ≡ fillFrom 1908 rest ps
+    go : (rest : Option (List ℕ)) (ps : List Packet) → IsRest rest → ArePackets ps
+        → cutFrom (bytesIn (fillFrom 1908 rest ps .pieces)) rest ps ≡ fillFrom 1908 rest ps
     go none ps k a = waiting-cut 1908 ps a
     go (some r) ps k a =
         let more = fillWaiting (1908 - (2 + length r)) ps in
@@ -97,8 +100,10 @@ fill-cut q h = sym (go (q .rest) (q .waiting) (h .0) (h .1))
 
 -- ---- its records
 
-front-packed : (at room : ℕ) (first : Bool) (bytes : List ℕ) (packets : List Packet) (more : Cut) → (first ≡ false → at ≡ 0) → 1 ≤ length bytes → shortest ≤ room
-    → room ≤ 1908 → Packed (at + (2 + length bytes)) (room - (2 + length bytes)) (more .pieces) → Packed at room (fillFront room first bytes packets more .pieces)
+front-packed : (at room : ℕ) (first : Bool) (bytes : List ℕ) (packets : List Packet) (more : Cut)
+    → (first ≡ false → at ≡ 0) → 1 ≤ length bytes → shortest ≤ room → room ≤ 1908
+    → Packed (at + (2 + length bytes)) (room - (2 + length bytes)) (more .pieces)
+    → Packed at room (fillFront room first bytes packets more .pieces)
 front-packed at room first bytes packets more f low h high k = go (decLe (2 + length bytes) room)
   where
     go : Dec (2 + length bytes ≤ room) → Packed at room (fillFront room first bytes packets more .pieces)
@@ -118,7 +123,9 @@ waiting-packed at room (p ∷ ps) l h a =
     more = fillWaiting (room - (2 + length p)) ps
 
     go : Dec (shortest ≤ room) → Packed (at + (2 + length p)) (room - (2 + length p)) (more .pieces) → Packed at room (fillWaiting room (p ∷ ps) .pieces)
-    go (yes y) k = rw (waiting-front room p ps y) (front-packed at room true p ps more (λ e. let z : _≡_ {A = ℕ} 0 1 = cc in absurd (omega arith)) (a .0 .0) y h k)
+    go (yes y) k =
+        rw (waiting-front room p ps y)
+        (front-packed at room true p ps more (λ e. let z : _≡_ {A = ℕ} 0 1 = cc in absurd (omega arith)) (a .0 .0) y h k)
     go (no y) k = rw (waiting-full room (p ∷ ps) (omega arith)) l
 
 -- what is left is a queue again

@@ -14,7 +14,7 @@ use Rattle.basics.specs.Lists.{zeros}
 use Rattle.basics.proofs.Tests.{left-true, right-true}
 use Rattle.basics.proofs.Xor.{bit-cases}
 use Rattle.link.specs.Parsing.{markAt}
-use Rattle.record_marks.specs.Mark.{isFirst, isLast, lengthIn}
+use Rattle.marks.specs.Mark.{isFirst, isLast, lengthIn}
 use Rattle.packing.specs.Records.{allZero}
 
 -- the mark of a record, by its parts

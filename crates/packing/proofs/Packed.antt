@@ -19,7 +19,7 @@ use Rattle.link.proofs.Store.{mark-back}
 use Rattle.packing.specs.declared.Record.{Record}
 use Rattle.packing.specs.declared.Found.the-variants.{At}
 use Rattle.packing.specs.Rules.{shortest, recordMark, recordBytes, recordsBytes}
-use Rattle.record_marks.specs.Mark.{lengthIn, mayBegin, mayEnd, isMark}
+use Rattle.marks.specs.Mark.{lengthIn, mayBegin, mayEnd, isMark}
 use Rattle.packing.specs.Records.{placed, recordAt, pieceOf, readFrom}
 use Rattle.packing.proofs.Marks.{mark-fits, mark-length, mark-spare, mark-first, mark-last, mark-is}
 use Rattle.packing.proofs.Records as records

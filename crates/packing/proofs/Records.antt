@@ -18,7 +18,7 @@ use Rattle.packing.specs.declared.Record.{Record}
 use Rattle.packing.specs.declared.Found.{Found}
 use Rattle.packing.specs.declared.Found.the-variants.{At, End, Against}
 use Rattle.packing.specs.Rules.{shortest}
-use Rattle.record_marks.specs.Mark.{isFirst, isLast, lengthIn, mayBegin, mayEnd, isMark}
+use Rattle.marks.specs.Mark.{isFirst, isLast, lengthIn, mayBegin, mayEnd, isMark}
 use Rattle.packing.specs.Records.{allZero, endAt, placed, recordAt, pieceOf, withPiece, byFound, readWithin, readFrom, read}
 use Rattle.packing.proofs.Marks.{zeros-all, all-zeros, zeros-mark}
 use Rattle.link.proofs.Store.{mark-from}

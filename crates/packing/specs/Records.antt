@@ -9,7 +9,7 @@ use lib.Dec.{ltb, eqb}
 use Rattle.basics.specs.Sizes.{areaSize}
 use Rattle.link.specs.Link.{Piece}
 use Rattle.link.specs.Parsing.{markAt}
-use Rattle.record_marks.specs.Mark.{isFirst, isLast, lengthIn, isMark}
+use Rattle.marks.specs.Mark.{isFirst, isLast, lengthIn, isMark}
 use Rattle.packing.specs.Rules.{shortest}
 use Rattle.packing.specs.declared.Record.{Record}
 use Rattle.packing.specs.declared.Found.{Found}

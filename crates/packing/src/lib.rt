@@ -1,6 +1,7 @@
 // The bench's own packing: reading the records of a DATA area. What an area may hold is `Allowed` in specs/Rules.antt, what a frame takes from the queue is
-// `fill`, which crate filling writes.
+// `fill`, which crate sender writes (`filling`).
 use basics::sizes;
+use marks::records;
 ghost use mathlib.Core.Path.{_≡_};
 ghost use Prim.Native.Nat.{_+_, _<_};
 ghost use lib.ListN.{length, drop};
@@ -62,7 +63,7 @@ pub fn record_at(area: &[u8], at: usize) -> Found
     if mark == 0 {
         return end_at(area, at);
     }
-    if record_marks::is_mark(at, total - at, mark) {
+    if records::is_mark(at, total - at, mark) {
         let start = at + 2;
         return Found::At(Record {
             first: mark / sizes::FIRST_BIT % 2 == 1,

@@ -7,7 +7,7 @@ use lib.ListN.{length, take}
 use Rattle.basics.specs.Sizes.{areaSize, frameSize}
 use Rattle.lent.specs.Refusals.{by}
 use Rattle.lent.specs.Written.{written}
-use Rattle.interleaving.specs.Payload.{codedPayload}
+use Rattle.reed_solomon.specs.Payload.{codedPayload}
 use Rattle.frame.specs.Frame.{frameBytes}
 use Rattle.opening.specs.Opening.{openRefusal, openedArea}
 use Rattle.header.specs.declared.Header.{Header}

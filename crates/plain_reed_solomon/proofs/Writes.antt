@@ -10,10 +10,10 @@ use lib.Dec.{lit≤}
 use lib.ListN.{length, getD, set, take, drop, drop-of-length-le, length-set}
 use lib.Seq.{drop-cons, getD-set-same, getD-set-other, length-take-le, getD-take}
 use Rattle.reed_solomon.specs.Code.{parity, isCodeword, lengthened}
-use Rattle.interleaving.specs.Payload.{everyEighth, codedPayload}
+use Rattle.reed_solomon.specs.Payload.{everyEighth, codedPayload}
 use Rattle.plain_reed_solomon.specs.Word.{spread, withParity}
 use Rattle.reed_solomon.proofs.Laws.{parity-length, lengthened-whole}
-use Rattle.interleaving.proofs.Interleaved.{eighth-length, eighth-same, coded-by-places}
+use Rattle.reed_solomon.proofs.Interleaved.{eighth-length, eighth-same, coded-by-places}
 
 -- ---- every eighth byte, written
 

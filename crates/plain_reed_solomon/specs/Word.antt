@@ -1,9 +1,9 @@
--- What the plain form does to one word of a payload at a time. A private function's contract cites it; `Payload` of interleaving says what a payload is.
+-- What the plain form does to one word of a payload at a time. A private function's contract cites it; `Payload` of reed_solomon says what a payload is.
 use mathlib.Core.List.{List, [], _∷_}
 use Prim.Native.Nat.{ℕ, _+_}
 use lib.ListN.{set}
 use Rattle.reed_solomon.specs.Code.{parity}
-use Rattle.interleaving.specs.Payload.{everyEighth}
+use Rattle.reed_solomon.specs.Payload.{everyEighth}
 
 -- the bytes xs put at every eighth place from k on
 unfoldable pub spread : List ℕ → ℕ → List ℕ → List ℕ

@@ -1,5 +1,5 @@
 // The plain form of the Reed-Solomon code, for a reader who holds it against 2.6.3.6.3: word by word, by long division with a register of 16 bytes.
-// The quick forms, with the same contracts, stand in reed_solomon (one word) and interleaving (a payload).
+// The quick forms, with the same contracts, stand in crate reed_solomon (one word) and its module interleaving (a payload).
 use reed_solomon::register;
 ghost use mathlib.Core.Path.{_≡_};
 ghost use mathlib.Core.List.{tail};
@@ -8,7 +8,7 @@ ghost use lib.ListN.{length, take};
 ghost use Rattle.field.specs.Field.{times};
 ghost use Rattle.division.specs.Register.{step};
 ghost use Rattle.reed_solomon.specs.Code.{generator, parity, isCodeword, lengthened};
-ghost use Rattle.interleaving.specs.Payload.{everyEighth, codedPayload, areCodewords};
+ghost use Rattle.reed_solomon.specs.Payload.{everyEighth, codedPayload, areCodewords};
 ghost use Rattle.plain_reed_solomon.specs.Word.{withParity};
 
 // The 16 parity bytes of some data: what a register of zeros holds after them.

@@ -15,14 +15,15 @@ use Rattle.lent.proofs.Refusals.{accepted, first-earlier, first-later}
 use Rattle.lent.proofs.Written.{written-own, written-nothing}
 use Rattle.link.specs.Link.{Piece, Step, heldAfter, onPieces}
 use Rattle.packing.specs.Records.{read}
-use Rattle.growing.specs.declared.Joined.{Joined}
-use Rattle.growing.specs.Growing.{StepOutcome}
+use Rattle.joining.specs.declared.growing.Joined.{Joined}
+use Rattle.joining.specs.Growing.{StepOutcome}
 use Rattle.joining.specs.Joining.{unjoined, Joinable, JoinOutcome}
 use Rattle.header.specs.declared.Header.{Header}
 use Rattle.receiver.specs.declared.Receiver.{Receiver}
 use Rattle.receiver.specs.declared.ApplyAnswer.{ApplyAnswer}
 use Rattle.receiver.specs.declared.ApplyAnswer.the-variants.{Applied}
-use Rattle.receiver.specs.Applying.{receiverThen, isData, piecesOf, orNone, missedCount, heldPart, joined, buffersTable, areaTable, applyRefusal, ApplyOutcome}
+use Rattle.receiver.specs.Applying.{receiverThen, isData, piecesOf, orNone, missedCount, heldPart, joined}
+use Rattle.receiver.specs.Applying.{buffersTable, areaTable, applyRefusal, ApplyOutcome}
 use Rattle.receiver.proofs.Tables.{BuffersPassed, buffers-passed, AreaPassed, area-passed, data-records, other-records}
 
 -- ---- the two numbers that `apply` goes by
@@ -108,8 +109,9 @@ module _ {header : Header} {area : List ℕ} {receiver : Receiver} {hold list : 
       → StepOutcome step (unjoined held) hold list done hold′ list′ → ApplyOutcome header area receiver hold list r hold′ list′
   as-joined step is answered before =
       let o = rw is at before in
+      let same = applied-path header (k .counted) (o .packets ∙ zero-add _) (o .listed ∙ zero-add _) (o .held) in
       record {
-        answer = accepted number _ _ _ _ (k .refusal) z (answered ∙ applied-path header (k .counted) (o .packets ∙ zero-add _) (o .listed ∙ zero-add _) (o .held));
+        answer = accepted number _ _ _ _ (k .refusal) z (answered ∙ same);
         held = accepted number _ _ _ _ (k .refusal) z (o .hold-bytes);
         listed = accepted number _ _ _ _ (k .refusal) z (o .list-bytes);
       }

@@ -20,7 +20,8 @@ use Rattle.header.specs.declared.Header.{Header}
 use Rattle.receiver.specs.declared.Receiver.{Receiver}
 use Rattle.receiver.specs.declared.ApplyAnswer.{ApplyAnswer}
 use Rattle.receiver.specs.declared.ApplyAnswer.the-variants.{Applied, Refused}
-use Rattle.receiver.specs.Applying.{receiverThen, isData, piecesOf, missedCount, heldPart, joined, buffersTable, areaTable, applyRefusal, ApplyOutcome, applyNumber}
+use Rattle.receiver.specs.Applying.{receiverThen, isData, piecesOf, missedCount, heldPart, joined}
+use Rattle.receiver.specs.Applying.{buffersTable, areaTable, applyRefusal, ApplyOutcome, applyNumber}
 use Rattle.receiver.proofs.Tables.{buffers-passed, area-passed}
 
 -- the answer's number is the refusal's
@@ -69,7 +70,8 @@ pub record Own (after : Receiver) (hold′ : List ℕ) : Type 0 where
   pub long : length hold′ ≡ 9000
 
 -- the law of `apply` and of `receive`: both leave the part that was joined
-pub leaves-own : (header : Header) (area : List ℕ) (receiver : Receiver) (hold : List ℕ) {hold′ : List ℕ} {after : Receiver} → receiver .held ≤ 8999 → length hold ≡ 9000
+pub leaves-own : (header : Header) (area : List ℕ) (receiver : Receiver) (hold : List ℕ) {hold′ : List ℕ} {after : Receiver}
+    → receiver .held ≤ 8999 → length hold ≡ 9000
     → firstOf (areaTable (heldPart header receiver hold) (piecesOf (header .kind) area)) ≡ 0
     → after ≡ receiverThen (header .txfn) (length (joined header area receiver hold .held)) → hold′ ≡ written hold 0 (joined header area receiver hold .held)
     → Own after hold′
@@ -81,7 +83,8 @@ leaves-own header area receiver hold most long z same left =
       long = ap length left ∙ written-length hold 0 part (omega (arith, well .held)) ∙ long;
     }
 
-pub apply-own : (header : Header) (area : List ℕ) (receiver : Receiver) (hold list : List ℕ) (missed packets listed : ℕ) (after : Receiver) (hold′ list′ : List ℕ)
+pub apply-own : (header : Header) (area : List ℕ) (receiver : Receiver) (hold list : List ℕ)
+    (missed packets listed : ℕ) (after : Receiver) (hold′ list′ : List ℕ)
     → ApplyOutcome header area receiver hold list (Applied missed packets listed after) hold′ list′ → Own after hold′
 unfolding applyRefusal
 apply-own header area receiver hold list missed packets listed after hold′ list′ x =

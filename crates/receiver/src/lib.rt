@@ -1,9 +1,10 @@
 // The receiver: packets come out of opened frames whole and in their turn, or not at all, and the frames missed are counted (01, "Receiving").
 use basics::sizes;
 use counts::Txfn;
-use growing::Joined;
 use header::FrameKind;
 use header::Header;
+use joining::fitting;
+use joining::growing::Joined;
 ghost use mathlib.Core.Path.{_≡_};
 ghost use mathlib.Core.Bool.{cond};
 ghost use lib.Dec.{eqb};

@@ -5,10 +5,11 @@ use crate::buffers;
 use crate::states;
 use basics::sizes;
 use header::Header;
-use header_fields::fields;
-use lent_bytes::Lent;
+use header_trials::fields;
 use outcome::Outcome;
 use receiver::Receiver;
+use vectors::lent_bytes;
+use vectors::lent_bytes::Lent;
 use vectors::numbers;
 
 // The call that is made, with what it has beside bytes, state, hold and list: taps to receive a frame, a header to apply an area.

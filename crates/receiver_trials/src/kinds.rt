@@ -2,8 +2,9 @@
 use crate::arrivals;
 use crate::buffers;
 use crate::entries;
-use lent_bytes::Lent;
 use outcome::Outcome;
+use vectors::lent_bytes;
+use vectors::lent_bytes::Lent;
 
 pub fn outcome(kind: u8, body: &[u8], at_hand: &Lent, hold: &mut [u8], list: &mut [u8]) -> Outcome {
     match kind {

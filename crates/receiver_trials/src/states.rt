@@ -3,7 +3,7 @@
 ghost use Prim.Native.Nat.{_≤_};
 ghost use lib.ListN.{length};
 use counts::Txfn;
-use header_fields::fields;
+use header_trials::fields;
 use receiver::ApplyAnswer;
 use receiver::Expected;
 use receiver::Receiver;

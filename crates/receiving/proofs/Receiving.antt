@@ -82,8 +82,10 @@ pub record ReceiveLeaves (taps : ℕ) (frame : List ℕ) (receiver : Receiver) (
   pub well : JoinedWell (joined (openedHeader taps frame) (openedArea taps frame) receiver hold)
   pub own : Own after hold′
 
-pub receive-own : (taps : ℕ) (frame : List ℕ) (receiver : Receiver) (hold list : List ℕ) (header : Header) (missed packets listed : ℕ) (after : Receiver) (hold′ list′ : List ℕ)
-    → ReceiveOutcome taps frame receiver hold list (Received header missed packets listed after) hold′ list′ → ReceiveLeaves taps frame receiver hold after hold′
+pub receive-own : (taps : ℕ) (frame : List ℕ) (receiver : Receiver) (hold list : List ℕ)
+    → (header : Header) (missed packets listed : ℕ) (after : Receiver) (hold′ list′ : List ℕ)
+    → ReceiveOutcome taps frame receiver hold list (Received header missed packets listed after) hold′ list′
+    → ReceiveLeaves taps frame receiver hold after hold′
 receive-own taps frame receiver hold list header missed packets listed after hold′ list′ x =
     let z : receiveRefusal taps frame receiver hold list ≡ 0 = sym (receive-numbers x) in
     let p = receive-passed taps frame receiver hold list z in

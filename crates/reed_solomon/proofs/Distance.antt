@@ -19,7 +19,8 @@ use Rattle.division.proofs.Linear.{remainder-plus}
 use Rattle.reed_solomon.specs.Code.{generator}
 use Rattle.reed_solomon.proofs.Laws.{Codeword, codeword-length}
 use Rattle.reed_solomon.proofs.Roots.{plus-bytes, terms, codeword-terms}
-use Rattle.reed_solomon.proofs.Places.{locator, locator-other, power-pos, takenOut, taken-length, taken-bytes, diff-lt, taken-terms, filled, filled-le, weight, weight-less, AllZero}
+use Rattle.reed_solomon.proofs.Places.{locator, locator-other, power-pos, takenOut, taken-length, taken-bytes, diff-lt, taken-terms}
+use Rattle.reed_solomon.proofs.Places.{filled, filled-le, weight, weight-less, AllZero}
 
 -- all places are 0, or one is not
 abbrev Found : List ℕ → Type 0
@@ -42,7 +43,8 @@ zero-of : (x y : ℕ) → x < 256 → y < 256 → times x y ≡ 0 → (y ≡ 0 �
 zero-of zero y hx hy e h = refl
 zero-of (suc x) y hx hy e h = absurd (h (no-zero-divisors (suc x) y (zero-lt-suc x) hx hy e))
 
-before-zero : (p : List ℕ) (c : ℕ) (q : List ℕ) → length (p ++ c ∷ q) ≤ 255 → Bytes (p ++ c ∷ q) → AllZero (takenOut (locator (length q)) (p ++ c ∷ q)) → AllZero p
+before-zero : (p : List ℕ) (c : ℕ) (q : List ℕ) → length (p ++ c ∷ q) ≤ 255 → Bytes (p ++ c ∷ q)
+    → AllZero (takenOut (locator (length q)) (p ++ c ∷ q)) → AllZero p
 before-zero [] c q l h z = tt
 before-zero (x ∷ p) c q l h z =
     let n = length (p ++ c ∷ q) in

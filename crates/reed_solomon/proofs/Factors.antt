@@ -5,7 +5,8 @@ use Prim.Native.Nat.{ℕ, zero, suc, _+_, _*_}
 use native.Mathlib.Omega.{arith}
 use lib.Dec.{lit<}
 use Rattle.basics.specs.Lists.{Bytes}
-use Rattle.field.specs.Field.{power, times, sumOver, double, twice}
+use Rattle.division.specs.Doubling.{twice}
+use Rattle.field.specs.Field.{power, times, sumOver, double}
 use Rattle.field.proofs.Laws.{power-add}
 use Rattle.division.specs.Division.{plus, scale, product}
 use Rattle.reed_solomon.specs.Code.{factors, generator}

@@ -1,6 +1,8 @@
 pub mod Factors
 pub mod Laws
-pub mod Rows
+pub mod Registers
 pub mod Roots
 pub mod Places
 pub mod Distance
+pub mod Interleaved
+mod Rows

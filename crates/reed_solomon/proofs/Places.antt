@@ -8,11 +8,13 @@ use native.Mathlib.Omega.{arith}
 use lib.Dec.{T, T-not, eqb, eqb-refl, lit<}
 use lib.Bits.{bitXor, xor-lt, xor-self}
 use lib.ListN.{length, getD}
-use Rattle.field.specs.Field.{power, times, double, twice}
+use Rattle.division.specs.Doubling.{twice}
+use Rattle.field.specs.Field.{power, times, double}
 use Rattle.basics.proofs.Xor.{xor-cross, xor-zero-eq}
 use Rattle.basics.specs.Lists.{allBelow}
 use Rattle.basics.proofs.Tests.{below}
-use Rattle.field.proofs.Laws.{times-xor-left, times-xor-right, times-lt, times-comm, times-assoc, times-one, zero-times, times-zero, two-times, power-lt, power-add, power-round}
+use Rattle.field.proofs.Laws.{times-xor-left, times-xor-right, times-lt, times-comm, times-assoc, times-one, zero-times, times-zero}
+use Rattle.field.proofs.Laws.{two-times, power-lt, power-add, power-round}
 use Rattle.field.proofs.Powers.{doublings, powers, power-at, no-zero-divisors}
 use Rattle.basics.specs.Lists.{Bytes}
 use Rattle.reed_solomon.proofs.Roots.{terms, terms-lt}
@@ -62,9 +64,10 @@ locator-other n k h e =
     let s : times (locator n) P ≡ locator n = power-add (11 * n) (11 * suc k) ∙ ap power (sym (mul-add 11 n (suc k))) ∙ sym e in
     let z : times (locator n) (bitXor P 1) ≡ 0 =
     times-xor-right (locator n) P 1 (power-lt (11 * suc k)) (lit< tt) ∙ ap₂ bitXor s (times-one (locator n) (power-lt (11 * n))) ∙ xor-self (locator n) in
-    not-one k h (xor-zero-eq P 1 (no-zero-divisors (locator n) (bitXor P 1) (power-pos (11 * n)) (power-lt (11 * n)) (xor-lt 8 P 1 (power-lt (11 * suc k)) (lit< tt)) z))
+    let small = xor-lt 8 P 1 (power-lt (11 * suc k)) (lit< tt) in
+    not-one k h (xor-zero-eq P 1 (no-zero-divisors (locator n) (bitXor P 1) (power-pos (11 * n)) (power-lt (11 * n)) small z))
 
--- ---- a place is taken takenOut: each coefficient is multiplied by the difference of its place's number and a
+-- ---- a place is taken out: each coefficient is multiplied by the difference of its place's number and a
 
 abbrev pub takenOut : ℕ → List ℕ → List ℕ
 takenOut a [] = []

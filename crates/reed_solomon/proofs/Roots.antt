@@ -8,7 +8,8 @@ use native.Mathlib.Omega.{arith}
 use lib.Dec.{T, eqb, eqb→eq, lit<}
 use lib.Bits.{bitXor, xor-lt, xor-self, xor-zero-r}
 use lib.ListN.{length}
-use Rattle.field.specs.Field.{power, times, sumOver, double, twice}
+use Rattle.division.specs.Doubling.{twice}
+use Rattle.field.specs.Field.{power, times, sumOver, double}
 use Rattle.basics.proofs.Xor.{xor-cross, xor-assoc}
 use Rattle.basics.specs.Lists.{allBelow}
 use Rattle.basics.proofs.Tests.{below}

@@ -1,4 +1,5 @@
-// The Reed-Solomon code of 255 bytes, 239 of them data, over the field of 256 elements: one word.
+// The Reed-Solomon code of 255 bytes, 239 of them data, over the field of 256 elements: one word here, the eight words of a payload in `interleaving`.
+pub mod interleaving;
 pub mod register;
 
 ghost use mathlib.Core.Path.{_≡_};

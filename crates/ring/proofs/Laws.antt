@@ -5,7 +5,8 @@ use mathlib.Core.List.{List, [], _++_, append-assoc}
 use Prim.Native.Nat.{ℕ, _+_, _-_, _%_, _≤_, _<_}
 use native.Mathlib.Omega.{arith}
 use lib.ListN.{length, getD, take, drop, length-append, length-take, length-drop, take-append-drop, List·getD-append}
-use lib.Seq.{take-at, drop-at, take-append-le, drop-append-le, take-append-add, drop-append-add, getD-append-add, getD-drop, getD-take, take-add, drop-drop, length-take-le}
+use lib.Seq.{take-at, drop-at, take-append-le, drop-append-le, take-append-add, drop-append-add, take-add, drop-drop, length-take-le}
+use lib.Seq.{getD-append-add, getD-drop, getD-take}
 use Rattle.basics.specs.Lists.{Bytes}
 use Rattle.basics.proofs.Lists.{bytes-append, bytes-take, bytes-drop}
 use Rattle.basics.proofs.Tests.{lt-or-ge}
@@ -42,7 +43,8 @@ module _ (start : ℕ) (buffer : List ℕ) (h : start ≤ length buffer) where
   byte-far i g l =
       let k = i - near in
       let e : length (drop start buffer) + k ≡ i = rw (length-drop start buffer) (omega arith) in
-      sym (ap (λ (j : ℕ). getD (drop start buffer ++ take start buffer) j 0) (sym e) ∙ getD-append-add (drop start buffer) (take start buffer) k 0 ∙ getD-take start buffer k 0 (omega arith))
+      sym (ap (λ (j : ℕ). getD (drop start buffer ++ take start buffer) j 0) (sym e)
+      ∙ getD-append-add (drop start buffer) (take start buffer) k 0 ∙ getD-take start buffer k 0 (omega arith))
 
   -- n bytes before the buffer's end, and behind it
   pub part-near : (at n : ℕ) → at + n ≤ near → take n (drop (start + at) buffer) ≡ take n (drop at (roundFrom start buffer))
@@ -126,8 +128,10 @@ module _ (buffer : List ℕ) (start at : ℕ) (s : List ℕ) (h : start ≤ leng
       let long-b : length b ≡ length buffer - start = length-drop start buffer in
       let fits : at + length s ≤ length b = rw long-b f in
       let here : written buffer (start + at) s ≡ a ++ written b at s =
-      ap (λ (l : List ℕ). written l (start + at) s) (sym (take-append-drop start buffer)) ∙ ap (λ (m : ℕ). written (a ++ b) (m + at) s) (sym long-a) ∙ written-right a b at s in
-      here ∙ sym (ap (roundFrom (length buffer - start)) (written-left b a at s fits) ∙ swap (written b at s) a (length buffer - start) (written-length b at s fits ∙ long-b))
+      ap (λ (l : List ℕ). written l (start + at) s) (sym (take-append-drop start buffer))
+      ∙ ap (λ (m : ℕ). written (a ++ b) (m + at) s) (sym long-a) ∙ written-right a b at s in
+      here ∙ sym (ap (roundFrom (length buffer - start)) (written-left b a at s fits)
+      ∙ swap (written b at s) a (length buffer - start) (written-length b at s fits ∙ long-b))
 
   -- or all behind it
   pub ring-far : length buffer - start ≤ at → written buffer (at - (length buffer - start)) s ≡ ringWritten buffer start at s
@@ -151,13 +155,17 @@ ring-append buffer start at s t h l =
     let r = roundFrom start buffer in
     let once = ringWritten buffer start at s in
     let shorter : at + length s ≤ length buffer = omega arith in
-    let outer : ringWritten once start (at + length s) t ≡ roundFrom (length once - start) (written (roundFrom start once) (at + length s) t) = unfold ringWritten in refl in
+    let outer : ringWritten once start (at + length s) t ≡ roundFrom (length once - start) (written (roundFrom start once) (at + length s) t) =
+    unfold ringWritten in refl in
     let all : ringWritten buffer start at (s ++ t) ≡ roundFrom (length buffer - start) (written r at (s ++ t)) = unfold ringWritten in refl in
-    outer ∙ ap₂ (λ (n : ℕ) (w : List ℕ). roundFrom (n - start) (written w (at + length s) t)) (ring-length buffer start at s h shorter) (ring-read buffer start at s h shorter)
+    outer
+    ∙ ap₂ (λ (n : ℕ) (w : List ℕ). roundFrom (n - start) (written w (at + length s) t))
+    (ring-length buffer start at s h shorter) (ring-read buffer start at s h shorter)
     ∙ ap (roundFrom (length buffer - start)) (written-append r at s t (rw (round-length start buffer) l)) ∙ sym all
 
 -- k bytes up to the buffer's end, and those behind it at its front
-pub ring-over : (buffer : List ℕ) (start at k : ℕ) (s : List ℕ) → start ≤ length buffer → at + length s ≤ length buffer → at + k ≡ length buffer - start → k ≤ length s
+pub ring-over : (buffer : List ℕ) (start at k : ℕ) (s : List ℕ)
+    → start ≤ length buffer → at + length s ≤ length buffer → at + k ≡ length buffer - start → k ≤ length s
     → written (written buffer (start + at) (take k s)) 0 (drop k s) ≡ ringWritten buffer start at s
 ring-over buffer start at k s h l e f =
     let long : length (take k s) ≡ k = length-take-le k s f in
@@ -200,7 +208,8 @@ module _ (start k : ℕ) (buffer : List ℕ) (h : start ≤ length buffer) where
       let a = take start buffer in
       let b = drop start buffer in
       let fits : k ≤ length b = rw (length-drop start buffer) (omega arith) in
-      rw (drop-append-le k b a fits, take-append-le k b a fits, take-add start k buffer, ← drop-drop k start buffer) (sym (append-assoc (drop k b) a (take k b)))
+      rw (drop-append-le k b a fits, take-append-le k b a fits, take-add start k buffer, ← drop-drop k start buffer)
+      (sym (append-assoc (drop k b) a (take k b)))
 
   further-over : length buffer ≤ start + k → k ≤ length buffer → roundFrom (start + k - length buffer) buffer ≡ roundFrom k (roundFrom start buffer)
   unfolding roundFrom
@@ -213,7 +222,8 @@ module _ (start k : ℕ) (buffer : List ℕ) (h : start ≤ length buffer) where
       let there : drop k (b ++ a) ++ take k (b ++ a) ≡ drop j a ++ (b ++ take j a) =
       ap (λ (m : ℕ). drop m (b ++ a) ++ take m (b ++ a)) (sym e) ∙ ap₂ (λ (x y : List ℕ). x ++ y) (drop-append-add b a j) (take-append-add b a j) in
       let here : drop j buffer ++ take j buffer ≡ (drop j a ++ b) ++ take j a =
-      ap (λ (l : List ℕ). drop j l ++ take j l) (sym (take-append-drop start buffer)) ∙ ap₂ (λ (x y : List ℕ). x ++ y) (drop-append-le j a b fits) (take-append-le j a b fits) in
+      ap (λ (l : List ℕ). drop j l ++ take j l) (sym (take-append-drop start buffer))
+      ∙ ap₂ (λ (x y : List ℕ). x ++ y) (drop-append-le j a b fits) (take-append-le j a b fits) in
       here ∙ append-assoc (drop j a) b (take j a) ∙ sym there
 
 -- the same in a ring of 32,768

@@ -46,4 +46,6 @@ module _ (buffer : List ℕ) (start at : ℕ) (bytes : List ℕ) (long : length 
   round-arrives k l = read (at + k) (omega arith) ∙ written-there round at bytes inside k l
 
   pub round-keeps : (i : ℕ) → i < 32768 → (i < at) ⊎ (at + length bytes ≤ i) → getD after ((start + i) % 32768) 0 ≡ getD buffer ((start + i) % 32768) 0
-  round-keeps i l outside = read i l ∙ ⊎-elim (kept-before round at bytes inside i) (kept-behind round at bytes inside i) outside ∙ round-stands buffer start i long s l
+  round-keeps i l outside =
+      read i l ∙ ⊎-elim (kept-before round at bytes inside i) (kept-behind round at bytes inside i) outside
+      ∙ round-stands buffer start i long s l

@@ -124,7 +124,8 @@ places-total (suc n) i taps f =
 
 places-sum : (taps : ℕ) (f : ℕ → ℕ) → total 25 (λ i. digit i taps * f i) ≡ sumAt (placesFrom 25 0 taps) f
 places-sum taps f =
-    sym (places-total 25 0 taps f ∙ total-same 25 (λ m. digit m taps * f (0 + m)) (λ i. digit i taps * f i) (λ m. ap (λ (j : ℕ). digit m taps * f j) (zero-add m)))
+    sym (places-total 25 0 taps f
+    ∙ total-same 25 (λ m. digit m taps * f (0 + m)) (λ i. digit i taps * f i) (λ m. ap (λ (j : ℕ). digit m taps * f j) (zero-add m)))
 
 pub follows-at : (taps : ℕ) (v : ℕ → ℕ) → Follows 25 (λ i. digit i taps) v → FollowsAt (placesFrom 25 0 taps) v
 follows-at taps v f k = f k ∙ places-sum taps (λ i. v (k + i))

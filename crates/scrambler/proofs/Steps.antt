@@ -93,7 +93,8 @@ pub room : (taps byte stages n start : ℕ) → 0 < n → byte * 2 ^ n + key tap
 room taps byte stages n start h e =
     let whole : key taps 8 start < 256 = key-lt taps 8 start in
     let halves : byte * 2 ^ n ≡ byte * 2 * 2 ^ (n - 1) =
-    ap (λ (x : ℕ). byte * 2 ^ x) (one-less n h) ∙ ap (λ (x : ℕ). byte * x) (pow-suc 2 (n - 1) ∙ mul-comm (2 ^ (n - 1)) 2) ∙ sym (mul-assoc byte 2 (2 ^ (n - 1))) in
+    ap (λ (x : ℕ). byte * 2 ^ x) (one-less n h) ∙ ap (λ (x : ℕ). byte * x) (pow-suc 2 (n - 1) ∙ mul-comm (2 ^ (n - 1)) 2)
+    ∙ sym (mul-assoc byte 2 (2 ^ (n - 1))) in
     omega (arith, le-mul-of-pos-right (byte * 2) (pow-pos (n - 1)))
 
 -- ---- in place: the bytes before i are scrambled, and the rest is to come

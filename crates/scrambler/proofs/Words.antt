@@ -61,7 +61,8 @@ pub record Adding (words before key : List ℕ) (i : ℕ) (bytes : List ℕ) : T
   pub so-far : (taps at : ℕ) → Holds (wordsFrom taps at) 50 words
       → take i bytes ++ scrambledFrom taps (stagesAt taps (at + i)) (drop i bytes) ≡ scrambledFrom taps (stagesAt taps at) before
 
-pub adding-start : {words bytes key : List ℕ} → length words ≡ 50 → length bytes ≤ 400 → key ≡ written (zeros 400) 0 (bytesOf words) → Adding words bytes key 0 bytes
+pub adding-start : {words bytes key : List ℕ} → length words ≡ 50 → length bytes ≤ 400 → key ≡ written (zeros 400) 0 (bytesOf words)
+    → Adding words bytes key 0 bytes
 adding-start {words} {bytes} {key} long few e =
     let size : length (bytesOf words) ≡ 400 = bytes-length words ∙ ap (λ (n : ℕ). 8 * n) long in
     let whole : key ≡ bytesOf words = e ∙ written-whole (zeros 400) (bytesOf words) (size ∙ sym (zeros-length 400)) in
@@ -84,8 +85,9 @@ module _ {words before key bytes : List ℕ} {i : ℕ} (s : Adding words before 
         key-is = s .key-is;
         so-far = λ taps at there.
             let e : at + (i + 1) ≡ at + i + 1 = omega arith in
+            let read = ap (λ (l : List ℕ). getD l i 0) (s .key-is) ∙ words-byte taps at words there i (omega (arith, s .same, s .few)) in
             bytes-turn taps (stagesAt taps (at + i)) bytes i x (stagesAt taps (at + (i + 1))) h
-            (ap (bitXor (getD bytes i 0)) (ap (λ (l : List ℕ). getD l i 0) (s .key-is) ∙ words-byte taps at words there i (omega (arith, s .same, s .few)) ∙ key-byte taps (at + i)))
+            (ap (bitXor (getD bytes i 0)) (read ∙ key-byte taps (at + i)))
             (ap (stagesAt taps) e ∙ stages-later taps (at + i) 1)
             ∙ s .so-far taps at there;
       }

@@ -67,7 +67,7 @@ put-written {queue} {start} {used} {packet} p =
 -- ---- demand 3
 
 -- the answer tells that the packet was taken
-taken-zero : (n : ℕ) (after sender : Sender) → Taken after ≡ by n (Taken sender) (Refused n) → (n ≡ 0) × (after ≡ sender)
+pub taken-zero : (n : ℕ) (after sender : Sender) → Taken after ≡ by n (Taken sender) (Refused n) → (n ≡ 0) × (after ≡ sender)
 unfolding by
 taken-zero n after sender = go (eqb n 0) refl
   where
@@ -76,7 +76,8 @@ taken-zero n after sender = go (eqb n 0) refl
     go false t e = let z : _≡_ {A = ℕ} 0 1 = cc in absurd (omega arith)
 
 -- Every byte that is not behind the used ones, as far as mark and packet reach, keeps its value.
-pub put-keeps : (bytes : List ℕ) (sender : Sender) (packet : List ℕ) (sender′ : Sender) (bytes′ : List ℕ) → PutOutcome bytes sender packet (Taken sender′) bytes′
+pub put-keeps : (bytes : List ℕ) (sender : Sender) (packet : List ℕ) (sender′ : Sender) (bytes′ : List ℕ)
+    → PutOutcome bytes sender packet (Taken sender′) bytes′
     → (i : ℕ) → i < 32768 → (i < sender .used) ⊎ (sender′ .used ≤ i) → getD bytes′ ((sender .start + i) % 32768) 0 ≡ getD bytes ((sender .start + i) % 32768) 0
 put-keeps bytes sender packet sender′ bytes′ outcome i l outside =
     let start = sender .start in
@@ -107,12 +108,14 @@ put-stands bytes sender packet sender′ bytes′ i queue outcome p s =
     let new : bytes′ ≡ putBytes bytes start used packet = outcome .bytes ∙ sym (accepted number number _ bytes _ refl (taken .0) refl) in
     let long : used + 2 + length packet ≡ used + length mark = omega arith in
     let front : usedIn (putBytes bytes start used packet) start (used + 2 + length packet) ≡ usedIn bytes start used ++ mark =
-    ap (take (used + 2 + length packet)) (ring-read bytes start used mark (omega (arith, passed .long, passed .within)) (omega (arith, passed .long, passed .room)))
+    ap (take (used + 2 + length packet))
+    (ring-read bytes start used mark (omega (arith, passed .long, passed .within)) (omega (arith, passed .long, passed .room)))
     ∙ ap (λ (n : ℕ). take n (written round used mark)) long ∙ take-written round used mark (omega (arith, size, passed .room)) in (
       is-packet,
       rw (taken .1, new) (record {
         are-bytes = ring-bytes bytes start used mark (s .are-bytes) (omega (arith, passed .most), (omega arith, p));
-        parsed = ap parse front ∙ parse-put (usedIn bytes start used) queue packet (bytes-take used round (round-bytes start bytes (s .are-bytes))) (s .parsed) is-packet;
+        parsed = ap parse front
+            ∙ parse-put (usedIn bytes start used) queue packet (bytes-take used round (round-bytes start bytes (s .are-bytes))) (s .parsed) is-packet;
         number = s .number;
       }),
     )

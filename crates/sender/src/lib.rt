@@ -1,8 +1,12 @@
-// The sender: packets are put into a lent ring of 32,768 bytes (01, "Queue"; 02, M-105).
+// The sender: packets are put into a lent ring of 32,768 bytes (01, "Queue"; 02, M-105), and what waits there is counted. `filling` takes packets off the
+// ring again for a frame.
+pub mod filling;
+
 use basics::sizes;
 use counts::Txfn;
 ghost use mathlib.Core.Path.{_≡_};
 ghost use Rattle.sender.specs.Put.{freshSender, putRefusal, PutOutcome};
+ghost use Rattle.sender.specs.Waiting.{WaitingOutcome};
 
 // Where the waiting packets begin in the ring, how many of its bytes they use, and the number of the next frame.
 pub struct Sender {
@@ -71,4 +75,29 @@ pub fn put(queue: &mut [u8], sender: Sender, packet: &[u8]) -> PutAnswer
         used: used + 2 + length,
         next,
     })
+}
+
+// The packets that wait, one that is begun among them, and how many bytes of them wait.
+pub enum WaitingAnswer {
+    Waiting { packets: usize, bytes: usize },
+    Refused(u8),
+}
+
+// How much waits in the ring. Two bytes of what is used are each packet's mark. Refusals: 2, 3.
+pub fn waiting(queue: &[u8], sender: Sender) -> WaitingAnswer
+    ensures { λ r. ⌜ WaitingOutcome (now (queue .entry)) sender r ⌝ }
+{
+    let start = sender.start;
+    let used = sender.used;
+    if queue.len() != sizes::QUEUE_SIZE {
+        return WaitingAnswer::Refused(2);
+    }
+    if !marks::is_ring_whole(queue, start, used) {
+        return WaitingAnswer::Refused(3);
+    }
+    let packets = marks::packets_waiting(queue, start, used);
+    WaitingAnswer::Waiting {
+        packets,
+        bytes: used - 2 * packets,
+    }
 }

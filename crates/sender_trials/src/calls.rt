@@ -1,9 +1,10 @@
-// The kinds of record that try put and next_frame.
+// The kinds of record that try put, waiting and next_frame.
 use crate::states;
-use header_fields::fields;
-use lent_bytes::Lent;
+use header_trials::fields;
 use outcome::Outcome;
 use vectors::digest;
+use vectors::lent_bytes;
+use vectors::lent_bytes::Lent;
 use vectors::numbers;
 use vectors::seeded;
 
@@ -37,6 +38,21 @@ pub fn put(body: &[u8], queue: &mut [u8]) -> Outcome {
     seeded::fill(numbers::four_at(body, 22), &mut packet);
     let found = sender::put(&mut queue[0..length], sender, &packet[0..packet_length]);
     put_outcome(&states::put_answer(found, sender), queue, expected)
+}
+
+// The state, the queue's length; the answer.
+pub fn waiting(body: &[u8], queue: &[u8]) -> Outcome {
+    if body.len() < 20 {
+        return Outcome::Malformed;
+    }
+    let expected = &body[20..];
+    let sender = states::sender(body, 0);
+    let length = numbers::two_at(body, 18) as usize;
+    if queue.len() < length {
+        return Outcome::Malformed;
+    }
+    let found = sender::waiting(&queue[0..length], sender);
+    outcome::of(&states::waiting_answer(found), expected)
 }
 
 // The bytes that were lent for a frame, by their digest; and their first ones in full, where they are given.

@@ -4,6 +4,7 @@ ghost use lib.ListN.{length};
 use counts::Txfn;
 use sender::PutAnswer;
 use sender::Sender;
+use sender::WaitingAnswer;
 use sending::NextAnswer;
 use vectors::numbers;
 
@@ -35,6 +36,19 @@ pub fn put_answer(found: PutAnswer, given: Sender) -> [u8; 20] {
         PutAnswer::Taken(sender) => answer(0, 0, sender),
         PutAnswer::Refused(number) => answer(number, 0, given),
     }
+}
+
+// What waiting answers: the refusal's number, 0 for none; the packets, 8 bytes, and their bytes, 8, both 0 where it is refused.
+pub fn waiting_answer(found: WaitingAnswer) -> [u8; 17] {
+    let mut answer = [0u8; 17];
+    match found {
+        WaitingAnswer::Waiting { packets, bytes } => {
+            numbers::write_eight(&mut answer, 1, packets as u64);
+            numbers::write_eight(&mut answer, 9, bytes as u64);
+        }
+        WaitingAnswer::Refused(number) => answer[0] = number,
+    }
+    answer
 }
 
 // What next_frame answers.

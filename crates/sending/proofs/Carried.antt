@@ -70,10 +70,12 @@ module _ (taps : ℕ) (fields : Fields) (sender : Sender) (bytes out : List ℕ)
         let header = headerFor sender fields queue in
         let number = nextRefusal taps fields (sender .start) (sender .used) bytes out in
         let long = area-length queue is-queue in
-        let frame : out′ ≡ written out 0 (frameBytes taps header (areaFor queue)) = outcome .frame ∙ sym (accepted number number _ out _ refl (not-refused outcome) refl) in
+        let frame : out′ ≡ written out 0 (frameBytes taps header (areaFor queue)) =
+        outcome .frame ∙ sym (accepted number number _ out _ refl (not-refused outcome) refl) in
         record {
           header = header;
-          fits-header = both-true (fitsBits 16 (sender .next .0)) (fieldsFit fields) (lt-ltb (sender .next .0) 65536 (omega (arith, count))) (passed outcome .fits);
+          fits-header = both-true (fitsBits 16 (sender .next .0)) (fieldsFit fields)
+              (lt-ltb (sender .next .0) 65536 (omega (arith, count))) (passed outcome .fits);
           counted = count;
           kind-is = refl;
           long = long;

@@ -47,7 +47,8 @@ leaves-rest k mark bytes packets h = record {
   sent = 2 + k;
   covers = omega arith;
   within = omega (arith, length-append bytes (layoutPackets packets));
-  is = ap (marked (32768 + length (drop k bytes))) (sym (behind-mark mark k (bytes ++ layoutPackets packets) ∙ drop-append-le k bytes (layoutPackets packets) h));
+  is = ap (marked (32768 + length (drop k bytes)))
+      (sym (behind-mark mark k (bytes ++ layoutPackets packets) ∙ drop-append-le k bytes (layoutPackets packets) h));
 }
 
 -- a packet is sent whole
@@ -56,7 +57,8 @@ leaves-behind mark bytes {all} {left} l = record {
   sent = 2 + (length bytes + l .sent);
   covers = omega (arith, l .covers);
   within = omega (arith, l .within, length-append bytes all);
-  is = l .is ∙ ap (λ (b : List ℕ). begunMark (left .rest) ++ b) (sym (behind-mark mark (length bytes + l .sent) (bytes ++ all) ∙ drop-append-add bytes all (l .sent)));
+  is = l .is
+      ∙ ap (λ (b : List ℕ). begunMark (left .rest) ++ b) (sym (behind-mark mark (length bytes + l .sent) (bytes ++ all) ∙ drop-append-add bytes all (l .sent)));
 }
 
 -- the front packet, which may be begun: all of it is sent where it fits, or it is cut
@@ -72,7 +74,8 @@ waiting-left : (room : ℕ) (ps : List Packet) → LeftOf (layoutPackets ps) (fi
 waiting-left room [] = rw (waiting-none room) (leaves-waiting [])
 waiting-left room (p ∷ ps) = go (decLe 3 room) (waiting-left (room - (2 + length p)) ps)
   where
-    go : Dec (3 ≤ room) → LeftOf (layoutPackets ps) (fillWaiting (room - (2 + length p)) ps .left) → LeftOf (layoutPackets (p ∷ ps)) (fillWaiting room (p ∷ ps) .left)
+    go : Dec (3 ≤ room) → LeftOf (layoutPackets ps) (fillWaiting (room - (2 + length p)) ps .left)
+        → LeftOf (layoutPackets (p ∷ ps)) (fillWaiting room (p ∷ ps) .left)
     go (yes y) more = rw (waiting-front room p ps y) (front-left room true (length p) p ps (fillWaiting (room - (2 + length p)) ps) more)
     go (no y) more = rw (waiting-full room (p ∷ ps) (omega arith)) (leaves-waiting (p ∷ ps))
 
@@ -102,4 +105,5 @@ pub left-bytes : (q : Queue) → IsQueue q → Bytes (layout q) → Bytes (layou
 left-bytes q h b =
     let l = fill-left q in
     let left = fill 1908 q .left in
-    rw (l .is) (bytes-append (begunMark (left .rest)) (drop (l .sent) (layout q)) (mark-bytes (left .rest) (fill-queue q h .0)) (bytes-drop (l .sent) (layout q) b))
+    rw (l .is)
+    (bytes-append (begunMark (left .rest)) (drop (l .sent) (layout q)) (mark-bytes (left .rest) (fill-queue q h .0)) (bytes-drop (l .sent) (layout q) b))

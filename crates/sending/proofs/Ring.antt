@@ -19,7 +19,7 @@ use Rattle.ring.proofs.Places.{round-keeps}
 use Rattle.marks.specs.Queue.{usedIn, waitingIn, startAfter}
 use Rattle.marks.proofs.Parsed.{whole-parsed}
 use Rattle.marks.proofs.Used.{used-length}
-use Rattle.filling.proofs.Freeing.{frees}
+use Rattle.sender.proofs.Freeing.{frees}
 use Rattle.sender.specs.declared.Sender.{Sender}
 use Rattle.sending.specs.Next.{kindFor, leftIn, senderAfter, nextRefusal, NextOutcome}
 use Rattle.sending.specs.declared.NextAnswer.the-variants.{Sent}
@@ -88,8 +88,8 @@ module _ {taps : ℕ} {fields : Fields} {sender : Sender} {bytes out : List ℕ}
     next-writes =
         let l : LeftOf waits left = subst (λ (all : List ℕ). LeftOf all left) laid (fill-left queue) in
         let mark = begunMark (left .rest) in
-        let freed = frees bytes start used (l .sent) (passed .long) (passed .within) (passed .most) (omega (arith, l .within, size)) (l .sent - length mark) mark (layout left)
-        (omega (arith, l .covers)) (l .is) refl in
+        let freed = frees bytes start used (l .sent) (passed .long) (passed .within) (passed .most) (omega (arith, l .within, size))
+        (l .sent - length mark) mark (layout left) (omega (arith, l .covers)) (l .is) refl in
         ring-is ∙ sym (freed .bytes) ∙ ap (λ (at : ℕ). ringWritten bytes at 0 mark) (freed .begins ∙ sym start-is)
 
     -- So every byte but the two at the new start keeps its value.

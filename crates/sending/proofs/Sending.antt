@@ -28,9 +28,9 @@ use Rattle.ring.proofs.Laws.{round-bytes}
 use Rattle.marks.specs.Queue.{usedIn, isRingWhole, waitingIn}
 use Rattle.marks.proofs.Used.{used-length, ring-passed}
 use Rattle.marks.proofs.Parsed.{whole-parsed}
-use Rattle.filling.specs.Filling.{remaining, FillOutcome, Freed}
-use Rattle.filling.specs.declared.Filled.{Filled}
-use Rattle.filling.specs.declared.Left.{Left}
+use Rattle.sender.specs.Filling.{remaining, FillOutcome, Freed}
+use Rattle.sender.specs.declared.filling.Filled.{Filled}
+use Rattle.sender.specs.declared.filling.Left.{Left}
 use Rattle.sender.specs.declared.Sender.{Sender}
 use Rattle.sending.specs.Next.{kindFor, leftIn, nextRefusal}
 use Rattle.sending.specs.declared.NextAnswer.the-variants.{Sent, Refused}
@@ -106,11 +106,13 @@ pub sent-so : (number : ℕ) (after sender : Sender) (kind kind′ : FrameKind) 
 unfolding by
 sent-so number after sender kind kind′ = go (eqb number 0) refl
   where
-    go : (test : Bool) → eqb number 0 ≡ test → Sent after kind ≡ cond test (Sent sender kind′) (Refused number) → (number ≡ 0) × (after ≡ sender) × (kind ≡ kind′)
+    go : (test : Bool) → eqb number 0 ≡ test → Sent after kind ≡ cond test (Sent sender kind′) (Refused number)
+        → (number ≡ 0) × (after ≡ sender) × (kind ≡ kind′)
     go true t e = (eqb-true number 0 t, cc, cc)
     go false t e = let z : _≡_ {A = ℕ} 0 1 = cc in absurd (omega arith)
 
 -- an answer, part by part
-pub sent-path : {start start′ used used′ : ℕ} {next : Txfn} {count : ℕ} {kind kind′ : FrameKind} → start ≡ start′ → used ≡ used′ → next .0 ≡ count → kind ≡ kind′
+pub sent-path : {start start′ used used′ : ℕ} {next : Txfn} {count : ℕ} {kind kind′ : FrameKind}
+    → start ≡ start′ → used ≡ used′ → next .0 ≡ count → kind ≡ kind′
     → Sent (record { start = start; used = used; next = next }) kind ≡ Sent (record { start = start′; used = used′; next = record { 0 = count } }) kind′
 sent-path o p q r i = Sent (record { start = o i; used = p i; next = record { 0 = q i } }) (r i)

@@ -1,10 +1,11 @@
 // The next frame: what waits in the ring goes out frame by frame (01, "Next frame"; 02, M-105).
 use basics::sizes;
-use filling::Left;
 use header::Fields;
 use header::FrameKind;
 use header::Header;
 use sender::Sender;
+use sender::filling;
+use sender::filling::Left;
 ghost use mathlib.Core.Path.{_≡_};
 ghost use mathlib.Core.Bool.{cond};
 ghost use lib.Dec.{eqb};

@@ -4,31 +4,34 @@ use mathlib.Core.Path.{_≡_}
 use mathlib.Core.List.{List}
 use Prim.Native.Nat.{ℕ}
 use lib.IntN.{ℤ}
-use Rattle.header.specs.Calls.{CodeHeaderOutcome, codeNumber}
+use Rattle.header.specs.Calls.{CodeHeaderOutcome}
 use Rattle.header.specs.declared.CodeAnswer.{CodeAnswer}
-use Rattle.reading.specs.Reading.{readHeader}
-use Rattle.level.specs.Level.{levelOf}
+use Rattle.header_reading.specs.Reading.{readHeader}
+use Rattle.fast_channel.specs.Level.{levelOf}
 use Rattle.list.specs.Entries.{entryAnswer}
 use Rattle.receiver.specs.Applying.{freshReceiver}
 use Rattle.receiving.specs.Receiving.{ReceiveOutcome}
 use Rattle.receiving.specs.declared.ReceiveAnswer.{ReceiveAnswer}
 use Rattle.sender.specs.Put.{freshSender, PutOutcome}
+use Rattle.sender.specs.Waiting.{waitingAnswer}
 use Rattle.sending.specs.Next.{NextOutcome}
 use Rattle.sender.specs.declared.PutAnswer.{PutAnswer}
 use Rattle.sending.specs.declared.NextAnswer.{NextAnswer}
-use Rattle.flat.specs.Answers.{flatPut, flatNext, flatReceive, flatRead, flatEntry, flatPacket}
-use Rattle.flat_headers.specs.Headers.{fieldsOf, headerOf}
-use Rattle.flat_states.specs.States.{senderOf, flatSender, receiverOf, flatReceiver}
+use Rattle.flat.specs.Answers.{flatPut, flatWaiting, flatNext, flatReceive, flatCode, flatRead, flatEntry, flatPacket}
+use Rattle.flat.specs.Headers.{fieldsOf, headerOf}
+use Rattle.flat.specs.States.{senderOf, flatSender, receiverOf, flatReceiver}
 use Rattle.flat.specs.declared.FlatPut.{FlatPut}
+use Rattle.flat.specs.declared.FlatWaiting.{FlatWaiting}
 use Rattle.flat.specs.declared.FlatNext.{FlatNext}
 use Rattle.flat.specs.declared.FlatReceive.{FlatReceive}
+use Rattle.flat.specs.declared.FlatCode.{FlatCode}
 use Rattle.flat.specs.declared.FlatRead.{FlatRead}
 use Rattle.flat.specs.declared.FlatEntry.{FlatEntry}
 use Rattle.flat.specs.declared.FlatPacket.{FlatPacket}
-use Rattle.flat_headers.specs.declared.headers.FlatFields.{FlatFields}
-use Rattle.flat_headers.specs.declared.headers.FlatHeader.{FlatHeader}
-use Rattle.flat_states.specs.declared.FlatReceiver.{FlatReceiver}
-use Rattle.flat_states.specs.declared.FlatSender.{FlatSender}
+use Rattle.flat.specs.declared.headers.FlatFields.{FlatFields}
+use Rattle.flat.specs.declared.headers.FlatHeader.{FlatHeader}
+use Rattle.flat.specs.declared.states.FlatReceiver.{FlatReceiver}
+use Rattle.flat.specs.declared.states.FlatSender.{FlatSender}
 
 pub record PutCall (queue : List ℕ) (sender : FlatSender) (packet : List ℕ) (r : FlatPut) (after : List ℕ) : Type 0 where
   pub answer : PutAnswer
@@ -45,12 +48,15 @@ pub record ReceiveCall (taps : ℕ) (frame : List ℕ) (receiver : FlatReceiver)
   pub outcome : ReceiveOutcome taps frame (receiverOf receiver) hold list answer hold′ list′
   pub flat : r ≡ flatReceive receiver answer
 
-pub record CodeCall (header : FlatHeader) (before : List ℕ) (r : ℕ) (after : List ℕ) : Type 0 where
+pub record CodeCall (header : FlatHeader) (before : List ℕ) (r : FlatCode) (after : List ℕ) : Type 0 where
   pub answer : CodeAnswer
   pub outcome : CodeHeaderOutcome (headerOf header) before answer after
-  pub flat : r ≡ codeNumber answer
+  pub flat : r ≡ flatCode answer
 
 -- calls that write nothing: what they answer
+
+abbrev pub WaitingCall : List ℕ → FlatSender → FlatWaiting → Type 0
+WaitingCall queue sender r = r ≡ flatWaiting (waitingAnswer queue (senderOf sender))
 
 abbrev pub FreshSenderCall : FlatSender → Type 0
 FreshSenderCall r = r ≡ flatSender freshSender

@@ -1,24 +1,28 @@
 // The calls for C: each is one call of the library, on what C's numbers stand for, and its answer as numbers. include/taqwelim.h declares them.
+use flat::FlatCode;
 use flat::FlatEntry;
 use flat::FlatNext;
 use flat::FlatPacket;
 use flat::FlatPut;
 use flat::FlatRead;
 use flat::FlatReceive;
-use flat_headers::headers;
-use flat_headers::headers::FlatFields;
-use flat_headers::headers::FlatHeader;
-use flat_states::FlatReceiver;
-use flat_states::FlatSender;
+use flat::FlatWaiting;
+use flat::headers;
+use flat::headers::FlatFields;
+use flat::headers::FlatHeader;
+use flat::states;
+use flat::states::FlatReceiver;
+use flat::states::FlatSender;
 use receiver::Receiver;
 use sender::Sender;
-ghost use Rattle.taqwelim.specs.Calls.{FreshSenderCall, PutCall, NextCall, FreshReceiverCall, ReceiveCall, EntryCall, PacketCall, CodeCall, ReadCall, LevelCall};
+ghost use Rattle.taqwelim.specs.Calls.{FreshSenderCall, PutCall, WaitingCall, NextCall, FreshReceiverCall, ReceiveCall, EntryCall, PacketCall};
+ghost use Rattle.taqwelim.specs.Calls.{CodeCall, ReadCall, LevelCall};
 
 #[no_mangle]
 pub extern "C" fn taqwelim_fresh_sender() -> FlatSender
     ensures { λ r. ⌜ FreshSenderCall r ⌝ }
 {
-    flat_states::flat_sender(Sender::fresh())
+    states::flat_sender(Sender::fresh())
 }
 
 // Refusals: 2, 3, 4, 5.
@@ -26,8 +30,17 @@ pub extern "C" fn taqwelim_fresh_sender() -> FlatSender
 pub extern "C" fn taqwelim_put(queue: &mut [u8], sender: FlatSender, packet: &[u8]) -> FlatPut
     ensures { λ r. ⌜ PutCall (now (queue .entry)) sender (now (packet .entry)) r (now (queue .exit)) ⌝ }
 {
-    let answer = sender::put(queue, flat_states::sender_of(sender), packet);
+    let answer = sender::put(queue, states::sender_of(sender), packet);
     flat::flat_put(sender, answer)
+}
+
+// Refusals: 2, 3.
+#[no_mangle]
+pub extern "C" fn taqwelim_waiting(queue: &[u8], sender: FlatSender) -> FlatWaiting
+    ensures { λ r. ⌜ WaitingCall (now (queue .entry)) sender r ⌝ }
+{
+    let answer = sender::waiting(queue, states::sender_of(sender));
+    flat::flat_waiting(answer)
 }
 
 // Refusals: 1, 2, 3, 6.
@@ -44,7 +57,7 @@ pub extern "C" fn taqwelim_next_frame(
     let answer = sending::next_frame(
         taps,
         headers::fields_of(fields),
-        flat_states::sender_of(sender),
+        states::sender_of(sender),
         queue,
         out,
     );
@@ -55,7 +68,7 @@ pub extern "C" fn taqwelim_next_frame(
 pub extern "C" fn taqwelim_fresh_receiver() -> FlatReceiver
     ensures { λ r. ⌜ FreshReceiverCall r ⌝ }
 {
-    flat_states::flat_receiver(Receiver::fresh())
+    states::flat_receiver(Receiver::fresh())
 }
 
 // Refusals: 1, 2, 3, 7 to 15.
@@ -69,7 +82,7 @@ pub extern "C" fn taqwelim_receive(
 ) -> FlatReceive
     ensures { λ r. ⌜ ReceiveCall taps (now (frame .entry)) receiver (now (hold .entry)) (now (list .entry)) r (now (hold .exit)) (now (list .exit)) ⌝ }
 {
-    let answer = receiving::receive(taps, frame, flat_states::receiver_of(receiver), hold, list);
+    let answer = receiving::receive(taps, frame, states::receiver_of(receiver), hold, list);
     flat::flat_receive(receiver, answer)
 }
 
@@ -91,11 +104,11 @@ pub extern "C" fn taqwelim_packet(list: &[u8], position: usize) -> FlatPacket
 
 // Refusals: 2, 6.
 #[no_mangle]
-pub extern "C" fn taqwelim_code_header(header: FlatHeader, out: &mut [u8]) -> u8
+pub extern "C" fn taqwelim_code_header(header: FlatHeader, out: &mut [u8]) -> FlatCode
     ensures { λ r. ⌜ CodeCall header (now (out .entry)) r (now (out .exit)) ⌝ }
 {
     let answer = header::code_header(headers::header_of(header), out);
-    headers::code_number(answer)
+    flat::flat_code(answer)
 }
 
 // Refusals: 2, 9, 10, 11.
@@ -103,12 +116,12 @@ pub extern "C" fn taqwelim_code_header(header: FlatHeader, out: &mut [u8]) -> u8
 pub extern "C" fn taqwelim_read_header(bytes: &[u8]) -> FlatRead
     ensures { λ r. ⌜ ReadCall (now (bytes .entry)) r ⌝ }
 {
-    flat::flat_read(reading::read_header(bytes))
+    flat::flat_read(header_reading::read_header(bytes))
 }
 
 #[no_mangle]
 pub extern "C" fn taqwelim_level(code: u8) -> i32
     ensures { λ r. ⌜ LevelCall code r ⌝ }
 {
-    level::level(code)
+    fast_channel::level(code)
 }

@@ -1,10 +1,9 @@
 // The kinds of record: which crate tries one, and its line in the table. Numbers are never used for another kind.
 ghost use Prim.Native.Nat.{_≤_};
-use lent_bytes::Lent;
 use outcome::Outcome;
-use vector_records::tally;
-use vector_records::tally::Tally;
-use vectors::text;
+use vectors::lent_bytes::Lent;
+use vectors::tally;
+use vectors::tally::Tally;
 
 // The kind without what says that a record is planted: a planted one is tried as any other.
 fn tried_as(kind: u8) -> u8 {
@@ -40,7 +39,10 @@ pub fn outcome(
     if kind < 28 {
         return receiver_trials::kinds::outcome(kind, body, at_hand, hold, list);
     }
-    code_trials::kinds::outcome(kind, body)
+    if kind < 33 {
+        return code_trials::kinds::outcome(kind, body);
+    }
+    sender_trials::kinds::outcome(kind, body, queue, at_hand)
 }
 
 // The lines of all kinds, whose numbers are these and so much more.
@@ -65,11 +67,12 @@ fn print_rows(tally: Tally, more: u64)
         28 + more,
         b"parity, plain form\ncodeword judged, plain form\npayload coded, plain form\npayload judged, plain form\nbytes scrambled, plain form\n",
     );
+    tally.print_kinds(33 + more, b"waiting counted\n");
 }
 
 pub fn print(tally: Tally) {
-    text::say(b"compared different kind\n");
+    printing::say(b"compared different kind\n");
     print_rows(tally, 0);
-    text::say(b"planted different kind\n");
+    printing::say(b"planted different kind\n");
     print_rows(tally, tally::PLANTED as u64);
 }

@@ -2,14 +2,14 @@
 // standard input, and prints how many agree, and how many of those that are planted, and wrong, do not. `tests/README.md` says where the vectors come from.
 mod kinds;
 
+use code_trials::published;
 use frame_trials::frames;
-use lent_bytes::Lent;
 use receiver_trials::buffers;
 use sender_trials::queues;
-use vector_records::record;
-use vector_records::record::Head;
-use vector_records::tally::Tally;
-use vectors::text;
+use vectors::lent_bytes::Lent;
+use vectors::record;
+use vectors::record::Head;
+use vectors::tally::Tally;
 
 // Reads the body of a record, and tries it. The 65,536 bytes that are lent have room for every body.
 fn tried(
@@ -90,10 +90,10 @@ fn main() {
         &mut list,
     ).ended(record::is_at_end());
     kinds::print(tally);
-    text::say(b"planted check values ");
+    printing::say(b"planted check values ");
     wrong_checks.print();
-    text::say(b"\ncheck values ");
+    printing::say(b"\ncheck values ");
     checks.print();
-    text::say(b"\n");
+    printing::say(b"\n");
     tally.print_totals(announced);
 }

@@ -2,18 +2,11 @@
 ghost use mathlib.Core.Bool.{false};
 ghost use mathlib.Core.Path.{_≡_};
 ghost use Prim.Native.Nat.{_≤_, _<_};
-use crate::text;
+use printing::more;
 
 pub struct Count {
     pub compared: u64,
     pub different: u64,
-}
-
-// One more. A count stays at the largest number, which no run reaches.
-pub fn more(n: u64) -> u64
-    ensures { λ r. ⌜ (n ≤ r) × (0 < r) ⌝ }
-{
-    if n < u64::MAX { n + 1 } else { n }
 }
 
 impl Count {
@@ -43,41 +36,41 @@ impl Count {
 
     // A number that was found, beside the one that is published.
     pub fn with_number(self, name: &[u8], found: u64, published: u64, digits: usize) -> Count {
-        text::say(name);
-        text::say(b" is ");
-        text::hex(found, digits);
-        text::say(b", published ");
-        text::hex(published, digits);
-        text::say(b"\n");
+        printing::say(name);
+        printing::say(b" is ");
+        printing::hex(found, digits);
+        printing::say(b", published ");
+        printing::hex(published, digits);
+        printing::say(b"\n");
         self.with(found == published)
     }
 
     // Bytes that were found, and those that are published.
     pub fn with_bytes(self, name: &[u8], found: &[u8], published: &[u8]) -> Count {
         let same = check::same(found, published);
-        text::say(name);
+        printing::say(name);
         if same {
-            text::say(b" as published\n");
+            printing::say(b" as published\n");
         } else {
-            text::say(b" NOT as published\n");
+            printing::say(b" NOT as published\n");
         }
         self.with(same)
     }
 
     // A line of the table.
     pub fn print_row(self, name: &[u8]) {
-        text::number(self.compared);
-        text::say(b" ");
-        text::number(self.different);
-        text::say(b" ");
-        text::say(name);
-        text::say(b"\n");
+        printing::number(self.compared);
+        printing::say(b" ");
+        printing::number(self.different);
+        printing::say(b" ");
+        printing::say(name);
+        printing::say(b"\n");
     }
 
     pub fn print(self) {
-        text::number(self.compared);
-        text::say(b" compared, ");
-        text::number(self.different);
-        text::say(b" different");
+        printing::number(self.compared);
+        printing::say(b" compared, ");
+        printing::number(self.different);
+        printing::say(b" different");
     }
 }

@@ -4,8 +4,8 @@ use native.Mathlib.Omega.{arith}
 use mathlib.Core.Path.{refl}
 use Prim.Native.Nat.{_*_, _/_, _^_}
 use Rattle.basics.proofs.Xor.{bit-mul-lt}
-use Rattle.field.specs.Field.{twice}
-use Rattle.field.proofs.Double.{top, twice-lt}
+use Rattle.division.specs.Doubling.{twice}
+use Rattle.division.proofs.Doubling.{top, twice-lt}
 use Rattle.crc.proofs.twice.Statement.{statement}
 use Rattle.crc.proofs.twice.Tie as tie
 

@@ -1,3 +1,4 @@
+-- 0 is not locked, and every other number is locked: the two branches are those of `lockOf`.
 use borrow.Author.Tests.{eq-eqb, ne-eqb}
 use Rattle.fast_channel.proofs.lock_of.Statement.{statement}
 use Rattle.fast_channel.proofs.lock_of.Tie as tie

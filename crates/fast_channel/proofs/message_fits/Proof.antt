@@ -1,3 +1,4 @@
+-- Kind by kind: a number as wide as its type fits by the type's bound, and for the others the code's tests are the definition's.
 use borrow.Author.Tests.{lt-ltb}
 use native.Mathlib.Omega.{arith}
 use Prim.Native.Nat.{_<_}

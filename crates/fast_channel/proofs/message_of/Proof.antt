@@ -1,3 +1,4 @@
+-- Opcode by opcode, as `messageOf` chooses; the last arm, a reserved message, is reached where the opcode is none of the eight before it.
 use borrow.Author.Tests.{ne-eqb}
 use Rattle.fast_channel.specs.FastChannel.{messageOf}
 use borrow.Author.Needs.{needs}
@@ -85,7 +86,16 @@ returns-9 : tie.Need-returns-9
 unfolding messageOf
 returns-9 c =
     let at-match = c .match in
-    simp (ne-eqb _ _ (at-match .rest .0 .0 .0 .0 .0 .0 .0 .1), ne-eqb _ _ (at-match .rest .0 .0 .0 .0 .0 .0 .1), ne-eqb _ _ (at-match .rest .0 .0 .0 .0 .0 .1), ne-eqb _ _ (at-match .rest .0 .0 .0 .0 .1), ne-eqb _ _ (at-match .rest .0 .0 .0 .1), ne-eqb _ _ (at-match .rest .0 .0 .1), ne-eqb _ _ (at-match .rest .0 .1), ne-eqb _ _ (at-match .rest .1))
+    simp (
+      ne-eqb _ _ (at-match .rest .0 .0 .0 .0 .0 .0 .0 .1),
+      ne-eqb _ _ (at-match .rest .0 .0 .0 .0 .0 .0 .1),
+      ne-eqb _ _ (at-match .rest .0 .0 .0 .0 .0 .1),
+      ne-eqb _ _ (at-match .rest .0 .0 .0 .0 .1),
+      ne-eqb _ _ (at-match .rest .0 .0 .0 .1),
+      ne-eqb _ _ (at-match .rest .0 .0 .1),
+      ne-eqb _ _ (at-match .rest .0 .1),
+      ne-eqb _ _ (at-match .rest .1),
+    )
 
 pub message-of-spec : {M : Type 1} → statement M
 message-of-spec =

@@ -1,3 +1,4 @@
+-- Kind by kind: where a payload holds two or three numbers it is what `with_lock`, `byte_pair` or `version_number` ensures.
 use borrow.Author.Needs.{needs}
 use Rattle.fast_channel.proofs.payload.Statement.{statement}
 use Rattle.fast_channel.proofs.payload.Tie as tie

@@ -1,3 +1,4 @@
+-- Each return is what `payloadRule` chooses: its one test of opcodes 1 and 3 is two in the code, and both stand before that of 0 to 6.
 use borrow.Author.Tests.{le-leb, lt-leb, ne-eqb}
 use Rattle.fast_channel.specs.FastChannel.{payloadRule}
 use Rattle.fast_channel.proofs.payload_rule.Statement.{statement}

@@ -1,3 +1,4 @@
+-- Below 7 the definition's conjunction is false, and from 7 on it is its second test, which is what the code returns.
 use borrow.Author.Tests.{le-leb, lt-leb}
 use Rattle.fast_channel.proofs.reserved_fits.Statement.{statement}
 use Rattle.fast_channel.proofs.reserved_fits.Tie as tie

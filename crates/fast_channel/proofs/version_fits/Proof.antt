@@ -1,3 +1,4 @@
+-- An early return where major or minor is too large; where both fit, the definition's conjunction is the test of patch.
 use borrow.Author.Tests.{lt-ltb, le-ltb}
 use Rattle.fast_channel.proofs.version_fits.Statement.{statement}
 use Rattle.fast_channel.proofs.version_fits.Tie as tie

@@ -1,3 +1,4 @@
+-- That both masks together double all eight bytes is `doubles` of Tops.antt; no product overflows, since what is masked is at most its mask.
 use native.Mathlib.Omega.{arith}
 use Prim.Native.Nat.{_/_}
 use lib.Bits.{and-le-r}

@@ -1,3 +1,4 @@
+-- Turn by turn: the byte is the power whose exponent is the number of turns done, since twice a power is the next (`power-next`).
 use borrow.Author.Needs.{needs}
 use mathlib.Core.Path.{_≡_, refl, ap, _∙_}
 use Prim.Native.Nat.{_-_, _≤_}

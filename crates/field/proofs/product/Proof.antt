@@ -1,3 +1,4 @@
+-- A byte stands lowest in a number of eight, so that the lowest byte of the eight products is its own (`product-low`).
 use borrow.Author.Needs.{needs}
 use mathlib.Core.Path.{ap, _∙_}
 use Prim.Native.Nat.{_%_}

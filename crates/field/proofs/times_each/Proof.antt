@@ -1,3 +1,4 @@
+-- Bit by bit of a: the sum so far, and what the bits left make of the doubled bytes, together stay the product (`product-turn`).
 use borrow.Author.Needs.{needs}
 use mathlib.Core.Path.{_≡_, sym, ap, _∙_, subst}
 use Prim.Native.Nat.{_≤_, _<_, _-_, _/_, _%_, _*_, _^_}
@@ -14,7 +15,8 @@ use Rattle.field.proofs.times_each.Statement.{statement}
 use Rattle.field.proofs.times_each.Tie as tie
 
 abbrev Inv-loop : tie.InvT-loop
-Inv-loop bytes a bits₀ doubled₀ sum₀ left₀ bits doubled sum left = (left ≤ 8) × (doubled < 256 ^ 8) × (bitXor sum (eachByte (sumOver left bits) 8 doubled) ≡ timesEach bytes a)
+Inv-loop bytes a bits₀ doubled₀ sum₀ left₀ bits doubled sum left =
+    (left ≤ 8) × (doubled < 256 ^ 8) × (bitXor sum (eachByte (sumOver left bits) 8 doubled) ≡ timesEach bytes a)
 
 abbrev μ-loop : tie.MeasureT-loop
 μ-loop bytes a bits₀ doubled₀ sum₀ left₀ bits doubled sum left = left

@@ -1,3 +1,4 @@
+-- By the case of the answer: a packet, the end or a refusal, each with the five numbers that `flatEntry` has for it.
 use borrow.Author.Needs.{needs}
 use Rattle.flat.proofs.flat_entry.Statement.{statement}
 use Rattle.flat.proofs.flat_entry.Tie as tie

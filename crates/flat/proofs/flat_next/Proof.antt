@@ -1,3 +1,4 @@
+-- A frame sent: sender and kind by what `flat_sender` and `kind_number` ensure. A refusal: the sender that C gave, and kind 0.
 use borrow.Author.Needs.{needs}
 use Rattle.flat.proofs.flat_next.Statement.{statement}
 use Rattle.flat.proofs.flat_next.Tie as tie

@@ -1,3 +1,4 @@
+-- By the case of the answer: only a packet has a place, and the end and a refusal have the same one, an empty part at 0.
 use borrow.Author.Needs.{needs}
 use Rattle.flat.proofs.flat_packet.Statement.{statement}
 use Rattle.flat.proofs.flat_packet.Tie as tie

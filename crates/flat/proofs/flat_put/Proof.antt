@@ -1,3 +1,4 @@
+-- A packet taken: the sender after it, by what `flat_sender` ensures. A refusal: the sender that C gave, and the number.
 use borrow.Author.Needs.{needs}
 use Rattle.flat.proofs.flat_put.Statement.{statement}
 use Rattle.flat.proofs.flat_put.Tie as tie

@@ -1,3 +1,4 @@
+-- A header read: its numbers by what `flat_header` ensures. A refusal: zeros in its place, by what `no_header` ensures.
 use borrow.Author.Needs.{needs}
 use Rattle.flat.proofs.flat_read.Statement.{statement}
 use Rattle.flat.proofs.flat_read.Tie as tie

@@ -1,3 +1,4 @@
+-- A frame received: header and receiver by what `flat_header` and `flat_receiver` ensure. A refusal: zeros, and the receiver that C gave.
 use borrow.Author.Needs.{needs}
 use Rattle.flat.proofs.flat_receive.Statement.{statement}
 use Rattle.flat.proofs.flat_receive.Tie as tie

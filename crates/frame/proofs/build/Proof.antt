@@ -1,3 +1,4 @@
+-- Coding the header and writing the frame of it is `frameBytes`, by what `coded_header` and `write_frame` ensure.
 use Rattle.frame.specs.Frame.{frameBytes}
 use borrow.Author.Needs.{needs}
 use Rattle.frame.proofs.build.Statement.{statement}

@@ -1,3 +1,4 @@
+-- `write_both` ensures one list behind the other; the two are what `preamble` and `scrambled_body` ensure.
 use mathlib.Core.Path.{ap₂, _∙_}
 use mathlib.Core.List.{_++_}
 use Rattle.lent.specs.Written.{written}

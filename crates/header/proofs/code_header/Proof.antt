@@ -1,3 +1,4 @@
+-- A refusal keeps the lent bytes; with none they are exactly 16 (`code-length`), and the coded header is written over all of them.
 use mathlib.Core.Path.{refl, sym, ap, _∙_}
 use native.Mathlib.Omega.{arith}
 use lib.ListN.{length}
@@ -21,7 +22,10 @@ returns : tie.Need-returns
 returns c =
     let at-code-refusal = c .before .code-refusal in
     let at-if1 = c .if1 in
-    record { answer = refused _ _ _ (λ n. Refused n) (at-code-refusal .ensures) (at-if1 .taken); bytes = kept _ _ _ _ (at-code-refusal .ensures) (at-if1 .taken) }
+    record {
+      answer = refused _ _ _ (λ n. Refused n) (at-code-refusal .ensures) (at-if1 .taken);
+      bytes = kept _ _ _ _ (at-code-refusal .ensures) (at-if1 .taken);
+    }
 
 header-bytes-requires : tie.Need-header-bytes-requires
 header-bytes-requires c κs = search needs
@@ -47,7 +51,14 @@ returns-2 c =
     let at-write-at = c .before .before .write-at in
     let at-args = c .before .before .before .before .before .before .before .before .before .before .args in
     let at-header-bytes = c .before .before .before .before .before .header-bytes in
-    record { answer = accepted _ _ _ _ _ (at-code-refusal .ensures) (at-if1 .left) refl; bytes = accepted _ _ _ _ _ (at-code-refusal .ensures) (at-if1 .left) (at-write-at .ensures ∙ ap (written (at-args .out .now) 0) (at-header-bytes .ensures) ∙ written-whole _ _ (header-length (at-args .header) ∙ sym (code-length _ _ (sym (at-code-refusal .ensures) ∙ at-if1 .left)))) }
+    let sized = code-length _ _ (sym (at-code-refusal .ensures) ∙ at-if1 .left) in
+    record {
+      answer = accepted _ _ _ _ _ (at-code-refusal .ensures) (at-if1 .left) refl;
+      bytes = accepted _ _ _ _ _ (at-code-refusal .ensures) (at-if1 .left)
+          (at-write-at .ensures
+          ∙ ap (written (at-args .out .now) 0) (at-header-bytes .ensures)
+          ∙ written-whole _ _ (header-length (at-args .header) ∙ sym sized));
+    }
 
 pub code-header-spec : {M : Type 1} → statement M
 code-header-spec =

@@ -1,3 +1,4 @@
+-- Each return gives the number of the first row that applies; that TXFN fits in 16 bits is not tested, for its type has no more.
 use borrow.Author.Tests.{lt-ltb, eq-eqb, ne-eqb}
 use mathlib.Core.Path.{sym, _∙_}
 use native.Mathlib.Omega.{arith}
@@ -24,7 +25,8 @@ returns-2 c =
     let at-if1 = c .before .before .before .if1 in
     let at-fields-fit = c .before .fields-fit in
     let at-if2 = c .if2 in
-    let txfn-fits : at-args .header .txfn .0 < 65536 = omega arith in simp (eq-eqb _ _ (at-if1 .left), lt-ltb _ _ txfn-fits, sym (at-fields-fit .ensures) ∙ at-if2 .taken)
+    let txfn-fits : at-args .header .txfn .0 < 65536 = omega arith in
+    simp (eq-eqb _ _ (at-if1 .left), lt-ltb _ _ txfn-fits, sym (at-fields-fit .ensures) ∙ at-if2 .taken)
 
 returns-3 : tie.Need-returns-3
 unfolding codeRefusal firstOf
@@ -33,7 +35,8 @@ returns-3 c =
     let at-if1 = c .before .before .before .if1 in
     let at-fields-fit = c .before .fields-fit in
     let at-if2 = c .if2 in
-    let txfn-fits : at-args .header .txfn .0 < 65536 = omega arith in simp (eq-eqb _ _ (at-if1 .left), lt-ltb _ _ txfn-fits, sym (at-fields-fit .ensures) ∙ at-if2 .left)
+    let txfn-fits : at-args .header .txfn .0 < 65536 = omega arith in
+    simp (eq-eqb _ _ (at-if1 .left), lt-ltb _ _ txfn-fits, sym (at-fields-fit .ensures) ∙ at-if2 .left)
 
 pub code-refusal-spec : {M : Type 1} → statement M
 code-refusal-spec = tie.close (tie.spec returns fields-fit-requires returns-2 returns-3)

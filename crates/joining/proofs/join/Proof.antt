@@ -1,3 +1,5 @@
+-- Record by record: `Reached` tells what those before this place did, and its laws are in Reached.antt. The measure is the area's bytes left;
+-- nothing against the rules can stand here (`not-against`), since the whole area can be read.
 use mathlib.Core.Path.{sym, _∙_}
 use Prim.Native.Nat.{_-_}
 use native.Mathlib.Omega.{arith}
@@ -65,25 +67,24 @@ join-record-requires c κs =
 
 loop-less : tie.Need-loop-less Inv-loop μ-loop
 loop-less c =
-    let at-record-at = c .before .before .before .before .before .before .before .before .before .before .before .before .record-at in
-    let at-found = c .before .before .before .before .before .before .before .before .before .before .found in
-    let at-args = c .before .before .before .before .before .before .before .before .before .before .before .before .before .before .before .before .before .args in
-    let at-loop = c .before .before .before .before .before .before .before .before .before .before .before .before .before .loop in
-    let here = sym (at-record-at .ensures) ∙ at-found .given .1 in
-    let found = at-found .given .0 .0 in
-    let l = lies (at-args .area .now) (at-loop .at) found here in
-    omega (arith, l .inside, l .start, at-loop .inv .area-long)
+    let told = c .before .before .before .before .before .before .before .before .before .before in
+    let read = told .before .before in
+    let turn = read .before in
+    let given = turn .before .before .before .before in
+    let here = sym (read .record-at .ensures) ∙ told .found .given .1 in
+    let l = lies (given .args .area .now) (turn .loop .at) (told .found .given .0 .0) here in
+    omega (arith, l .inside, l .start, turn .loop .inv .area-long)
 
 loop-again : tie.Need-loop-again Inv-loop μ-loop
 loop-again c =
-    let at-record-at = c .before .before .before .before .before .before .before .before .before .before .before .before .record-at in
-    let at-found = c .before .before .before .before .before .before .before .before .before .before .found in
-    let at-loop = c .before .before .before .before .before .before .before .before .before .before .before .before .before .loop in
-    let at-join-record = c .before .before .before .before .join-record in
-    let at-pre = c .before .before .before .before .before .before .before .before .before .before .before .before .before .before .before .before .before .pre in
-    let here = sym (at-record-at .ensures) ∙ at-found .given .1 in
-    let found = at-found .given .0 .0 in
-    goes-on (at-loop .inv) found here (at-join-record .result) _ _ (at-pre .low) (at-pre .room) (at-join-record .ensures)
+    let joined = c .before .before .before .before in
+    let told = joined .before .before .before .before .before .before in
+    let read = told .before .before in
+    let turn = read .before in
+    let given = turn .before .before .before .before in
+    let here = sym (read .record-at .ensures) ∙ told .found .given .1 in
+    goes-on (turn .loop .inv) (told .found .given .0 .0) here (joined .join-record .result) _ _ (given .pre .low) (given .pre .room)
+    (joined .join-record .ensures)
 
 enum-told : tie.Need-enum-told Inv-loop μ-loop
 enum-told c = search needs

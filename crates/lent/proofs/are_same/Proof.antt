@@ -1,3 +1,4 @@
+-- A test that is true exactly where two parts are equal, as `check::same` promises, is the definition's test (`is-same`).
 use Rattle.basics.proofs.Tests.{is-same}
 use borrow.Author.Needs.{needs}
 use Rattle.lent.proofs.are_same.Statement.{statement}

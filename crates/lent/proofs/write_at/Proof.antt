@@ -1,3 +1,4 @@
+-- A copy into the borrowed part from `at` on leaves the whole buffer as the definition writes it (`copied-part`).
 use mathlib.Core.Path.{ap, _∙_}
 use Prim.Native.Nat.{_-_}
 use lib.ListN.{length}

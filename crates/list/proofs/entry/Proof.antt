@@ -1,3 +1,4 @@
+-- Three returns, three laws of Calls.antt: the end, a refusal, a packet. No sum overflows, since a length that is found lies inside the list.
 use native.Mathlib.Omega.{arith}
 use Rattle.list.proofs.Calls.{at-end, at-refusal, at-packet}
 use borrow.Author.Needs.{needs}

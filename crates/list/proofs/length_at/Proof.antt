@@ -1,3 +1,4 @@
+-- No room for a mark, a mark that is no length, or a length: the laws of Lengths.antt. Only the last is not 0, and lies inside the list.
 use borrow.Author.Tests.{not-true, not-false}
 use mathlib.Core.Path.{refl}
 use native.Mathlib.Omega.{arith}

@@ -1,3 +1,4 @@
+-- An empty part where no packet stands (`no-part`), else the very bytes of the list (`the-part`), which lie inside it as `length_at` promises.
 use mathlib.Core.Path.{sym, _∙_}
 use native.Mathlib.Omega.{arith}
 use Rattle.list.proofs.Calls.{no-part, the-part}

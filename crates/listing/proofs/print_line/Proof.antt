@@ -1,3 +1,4 @@
+-- The line is printed: its length is within the lent bytes by what `write_line` ensures.
 use mathlib.Core.Path.{sym}
 use native.Mathlib.Omega.{arith}
 use lib.Seq.{length-take-le}

@@ -1,3 +1,4 @@
+-- Five words, each behind the one before (`next-word`), are the line (`accepted-words`); the bounds on the words' lengths leave room for all in 96 bytes.
 use native.Mathlib.Omega.{arith}
 use Rattle.listing_lines.specs.Lines.{decimal, kindWord}
 use Rattle.listing_lines.proofs.Parts.{first-word, next-word, accepted-words, whole-line}

@@ -1,3 +1,4 @@
+-- The head line is one word with the newline behind it, and shorter than 96 bytes.
 use native.Mathlib.Omega.{arith}
 use Rattle.listing_lines.specs.Lines.{headLine}
 use borrow.Author.Needs.{needs}

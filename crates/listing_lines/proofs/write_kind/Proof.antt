@@ -1,3 +1,4 @@
+-- By the case of the kind: the word that is written is the kind's, and has at most five letters.
 use native.Mathlib.Omega.{arith}
 use borrow.Author.Needs.{needs}
 use Rattle.listing_lines.proofs.write_kind.Statement.{statement}

@@ -1,3 +1,4 @@
+-- By the case of the answer: the line of an accepted frame or of a refused one, each by the contract of the call that writes it.
 use borrow.Author.Needs.{needs}
 use Rattle.listing_lines.proofs.write_line.Statement.{statement}
 use Rattle.listing_lines.proofs.write_line.Tie as tie

@@ -1,3 +1,4 @@
+-- A number of 64 bits has at most 20 digits (`few-digits`), and as few as can be are its decimal form (`number-written`).
 use native.Mathlib.Omega.{arith}
 use Rattle.listing_lines.proofs.Decimal.{few-digits, number-written}
 use borrow.Author.Needs.{needs}

@@ -1,3 +1,4 @@
+-- Three words, each behind the one before (`next-word`), are the line (`refused-words`), with room in 96 bytes.
 use native.Mathlib.Omega.{arith}
 use Rattle.listing_lines.specs.Lines.{decimal, ascii}
 use Rattle.listing_lines.proofs.Parts.{first-word, next-word, refused-words, whole-line}

@@ -1,3 +1,4 @@
+-- Two writes end to end, the word and the byte behind it, are one write of both (`written-append`).
 use mathlib.Core.Path.{refl, ap, _∙_}
 use mathlib.Core.List.{List, [], _∷_}
 use Prim.Native.Nat.{ℕ, _+_}

@@ -8,7 +8,7 @@ use lib.Seq.{length-take-le}
 use Rattle.lent.specs.Refusals.{firstOf, by}
 use Rattle.lent.specs.Written.{written}
 use Rattle.lent.proofs.Refusals.{refused, kept, accepted}
-use Rattle.reading.specs.Reading.{headerOf}
+use Rattle.header_reading.specs.Reading.{headerOf}
 use Rattle.opening.specs.Opening.{bodyTable, openedHeader, openedArea, headerPart, areaPart}
 use Rattle.opening.specs.declared.OpenAnswer.the-variants.{Opened, Refused}
 use Rattle.opening.proofs.Laws.{outer-first, inner-then, outer-passed, unscrambled-length}
@@ -66,8 +66,13 @@ returns-2 c =
     let at-unscrambled = c .before .before .before .before .before .before .before .before .unscrambled in
     let at-if2 = c .if2 in
     let at-write-area = c .before .before .before .write-area in
-    let e = inner-then (at-args .taps) (at-args .frame .now) (at-args .area .now) (at-outer-refusal .result) (at-inner-refusal .result) (at-outer-refusal .ensures) (at-if1 .left) ((at-inner-refusal .ensures) ∙ ap (λ l. firstOf (bodyTable l)) (at-unscrambled .ensures)) in
-    record { answer = refused _ _ _ (λ n. Refused n) e (at-if2 .taken); bytes = (at-write-area .ensures) ∙ ap₂ (λ (n : ℕ) (l : List ℕ). by n (written (at-args .area .now) 0 (areaPart l)) (at-args .area .now)) e (at-unscrambled .ensures) }
+    let area = at-args .area .now in
+    let inner = (at-inner-refusal .ensures) ∙ ap (λ l. firstOf (bodyTable l)) (at-unscrambled .ensures) in
+    let e = inner-then (at-args .taps) (at-args .frame .now) area (at-outer-refusal .result) _ (at-outer-refusal .ensures) (at-if1 .left) inner in
+    record {
+      answer = refused _ _ _ (λ n. Refused n) e (at-if2 .taken);
+      bytes = (at-write-area .ensures) ∙ ap₂ (λ (n : ℕ) (l : List ℕ). by n (written area 0 (areaPart l)) area) e (at-unscrambled .ensures);
+    }
 
 array-share-prefix-body : tie.Need-array-share-prefix-body
 array-share-prefix-body c = search needs
@@ -78,7 +83,10 @@ slice-aggregate-header-of c =
     let at-args = c .before .before .before .before .before .before .before .before .before .before .before .before .before .before .before .args in
     let at-outer-refusal = c .before .before .before .before .before .before .before .before .before .before .before .outer-refusal in
     let at-if1 = c .before .before .before .before .before .before .before .before .before .before .if1 in
-    let long : length (at-unscrambled .result) ≡ 2072 = ap length (at-unscrambled .ensures) ∙ unscrambled-length (at-args .taps) (at-args .frame .now) (outer-passed (at-args .taps) (at-args .frame .now) (at-args .area .now) (sym (at-outer-refusal .ensures) ∙ (at-if1 .left)) .long) in
+    let none = sym (at-outer-refusal .ensures) ∙ (at-if1 .left) in
+    let passed = outer-passed (at-args .taps) (at-args .frame .now) (at-args .area .now) none in
+    let long : length (at-unscrambled .result) ≡ 2072 =
+    ap length (at-unscrambled .ensures) ∙ unscrambled-length (at-args .taps) (at-args .frame .now) (passed .long) in
     sym (length-take-le 16 (at-unscrambled .result) (omega arith))
 
 header-of-requires : tie.Need-header-of-requires
@@ -87,7 +95,10 @@ header-of-requires c κs =
     let at-args = c .before .before .before .before .before .before .before .before .before .before .before .before .before .before .before .args in
     let at-outer-refusal = c .before .before .before .before .before .before .before .before .before .before .before .outer-refusal in
     let at-if1 = c .before .before .before .before .before .before .before .before .before .before .if1 in
-    let long : length (at-unscrambled .result) ≡ 2072 = ap length (at-unscrambled .ensures) ∙ unscrambled-length (at-args .taps) (at-args .frame .now) (outer-passed (at-args .taps) (at-args .frame .now) (at-args .area .now) (sym (at-outer-refusal .ensures) ∙ (at-if1 .left)) .long) in
+    let none = sym (at-outer-refusal .ensures) ∙ (at-if1 .left) in
+    let passed = outer-passed (at-args .taps) (at-args .frame .now) (at-args .area .now) none in
+    let long : length (at-unscrambled .result) ≡ 2072 =
+    ap length (at-unscrambled .ensures) ∙ unscrambled-length (at-args .taps) (at-args .frame .now) (passed .long) in
     length-take-le 16 (at-unscrambled .result) (omega arith)
 
 same-length-3 : tie.Need-same-length-3
@@ -104,8 +115,14 @@ returns-3 c =
     let at-if2 = c .before .before .if2 in
     let at-header-of = c .header-of in
     let at-write-area = c .before .before .before .before .before .write-area in
-    let e = inner-then (at-args .taps) (at-args .frame .now) (at-args .area .now) (at-outer-refusal .result) (at-inner-refusal .result) (at-outer-refusal .ensures) (at-if1 .left) ((at-inner-refusal .ensures) ∙ ap (λ l. firstOf (bodyTable l)) (at-unscrambled .ensures)) in
-    record { answer = accepted _ _ _ _ _ e (at-if2 .left) (ap (λ h. Opened h) ((at-header-of .ensures) ∙ ap (λ l. headerOf (headerPart l)) (at-unscrambled .ensures))); bytes = (at-write-area .ensures) ∙ ap₂ (λ (n : ℕ) (l : List ℕ). by n (written (at-args .area .now) 0 (areaPart l)) (at-args .area .now)) e (at-unscrambled .ensures) }
+    let area = at-args .area .now in
+    let inner = (at-inner-refusal .ensures) ∙ ap (λ l. firstOf (bodyTable l)) (at-unscrambled .ensures) in
+    let e = inner-then (at-args .taps) (at-args .frame .now) area (at-outer-refusal .result) _ (at-outer-refusal .ensures) (at-if1 .left) inner in
+    let header = (at-header-of .ensures) ∙ ap (λ l. headerOf (headerPart l)) (at-unscrambled .ensures) in
+    record {
+      answer = accepted _ _ _ _ _ e (at-if2 .left) (ap (λ h. Opened h) header);
+      bytes = (at-write-area .ensures) ∙ ap₂ (λ (n : ℕ) (l : List ℕ). by n (written area 0 (areaPart l)) area) e (at-unscrambled .ensures);
+    }
 
 pub open-spec : {M : Type 1} → statement M
 open-spec =

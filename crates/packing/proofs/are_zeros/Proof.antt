@@ -1,3 +1,4 @@
+-- Byte by byte: a zero leaves the question to the rest (`zeros-on`), another byte answers no (`zeros-broken`), the area's end yes (`zeros-end`).
 use mathlib.Core.Path.{_≡_, refl, sym, _∙_}
 use Prim.Native.Nat.{_-_}
 use lib.ListN.{length, drop}

@@ -1,3 +1,4 @@
+-- At position 0, where no record stands before, the end is against the rules; elsewhere `are_zeros` decides, as in the definition.
 use mathlib.Core.Path.{sym, _∙_}
 use borrow.Author.Tests.{eq-eqb, ne-eqb}
 use Rattle.packing.specs.Records.{endAt}

@@ -1,3 +1,4 @@
+-- Record by record: the area can be read exactly if it can from here on (`some-record`). The measure falls, since a record lies behind its mark (`lies`).
 use mathlib.Core.Path.{_≡_, sym, ap, _∙_}
 use Prim.Native.Nat.{_-_, _≤_}
 use native.Mathlib.Omega.{arith}

@@ -1,3 +1,4 @@
+-- Too few bytes or a mark of 0 ask for the records' end (`at-few`, `at-zero`); any other mark is a record exactly if `is_mark` allows it (`at-other`).
 use mathlib.Core.Path.{sym, ap, _∙_}
 use mathlib.Core.Bool.{cond}
 use native.Mathlib.Omega.{arith}

@@ -1,3 +1,4 @@
+-- The verdict as 0 or 1: the contracts of `are_codewords` and `bit_of`, one behind the other.
 use mathlib.Core.Path.{ap, _∙_}
 use Rattle.header.specs.Header.{flagBit}
 use borrow.Author.Needs.{needs}

@@ -1,3 +1,4 @@
+-- With sizes that are not the frame's, the output stays; else it is what `frame::build` promises for the plain header. Both as `builtOut` chooses.
 use borrow.Author.Tests.{eq-eqb, ne-eqb, le-leb, lt-leb}
 use mathlib.Core.Path.{ap, _∙_}
 use Rattle.lent.specs.Written.{written}

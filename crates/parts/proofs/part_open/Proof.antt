@@ -1,3 +1,4 @@
+-- The answer's number is that of the refusal (`open-numbers`), and the area's bytes are those that `opening::open` promises.
 use mathlib.Core.Path.{_∙_}
 use Rattle.opening.proofs.Theorems.{open-numbers}
 use borrow.Author.Needs.{needs}

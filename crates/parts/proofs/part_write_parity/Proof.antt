@@ -1,3 +1,4 @@
+-- A payload of another length stays; one of 2,040 bytes becomes what `write_parity` promises. Both as `parityOut` chooses.
 use borrow.Author.Tests.{eq-eqb, ne-eqb}
 use borrow.Author.Needs.{needs}
 use Rattle.parts.proofs.part_write_parity.Statement.{statement}

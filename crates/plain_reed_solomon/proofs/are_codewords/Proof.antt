@@ -1,3 +1,5 @@
+-- Word by word: all before k are codewords, and what is gathered is judged as the payload's word k (`in-code`);
+-- one that is none makes the definition's answer no, and after eight it is yes.
 use borrow.Author.Needs.{needs}
 use native.Mathlib.Omega.{arith}
 use mathlib.Core.Path.{_≡_, sym, ap, _∙_}
@@ -8,9 +10,9 @@ use borrow.Author.Tests.{not-true, not-false}
 use lib.ListN.{length}
 use Rattle.basics.proofs.Tests.{never-true}
 use Rattle.reed_solomon.specs.Code.{isCodeword}
-use Rattle.interleaving.specs.Payload.{everyEighth}
+use Rattle.reed_solomon.specs.Payload.{everyEighth}
 use Rattle.reed_solomon.proofs.Laws.{codeword-true, true-codeword}
-use Rattle.interleaving.proofs.Interleaved.{eighth-length, codewords-true, true-codewords}
+use Rattle.reed_solomon.proofs.Interleaved.{eighth-length, codewords-true, true-codewords}
 use Rattle.plain_reed_solomon.proofs.Writes.{in-code}
 use Rattle.plain_reed_solomon.proofs.are_codewords.Statement.{statement}
 use Rattle.plain_reed_solomon.proofs.are_codewords.Tie as tie

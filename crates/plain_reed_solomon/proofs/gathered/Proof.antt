@@ -1,11 +1,12 @@
+-- Byte by byte: those before i are every eighth of the payload from k on (`Filled`, `eighth-at`), so that all 255 are word k.
 use borrow.Author.Needs.{needs}
 use native.Mathlib.Omega.{arith}
 use mathlib.Core.Path.{_≡_, sym}
 use Prim.Native.Nat.{_≤_, _-_}
 use lib.ListN.{length}
 use Rattle.basics.proofs.Fill.{Filled, filled-more, filled-all}
-use Rattle.interleaving.specs.Payload.{everyEighth}
-use Rattle.interleaving.proofs.Interleaved.{eighth-at, eighth-length}
+use Rattle.reed_solomon.specs.Payload.{everyEighth}
+use Rattle.reed_solomon.proofs.Interleaved.{eighth-at, eighth-length}
 use Rattle.plain_reed_solomon.proofs.gathered.Statement.{statement}
 use Rattle.plain_reed_solomon.proofs.gathered.Tie as tie
 
@@ -43,7 +44,8 @@ loop-again c =
     let payload = args .payload .now in (
       search needs,
       search needs,
-      filled-more (everyEighth 255 (args .k) payload) (loop .word) (loop .i) _ (loop .inv .2) (omega arith) (sym (eighth-at 255 (args .k) payload (loop .i) (omega arith))),
+      filled-more (everyEighth 255 (args .k) payload) (loop .word) (loop .i) _ (loop .inv .2) (omega arith)
+          (sym (eighth-at 255 (args .k) payload (loop .i) (omega arith))),
     )
 
 returns : tie.Need-returns Inv-loop μ-loop

@@ -1,3 +1,4 @@
+-- More than 255 bytes are no codeword (`too-long`); others are one exactly if the last 16 are the parity of those before (`codeword-same`).
 use borrow.Author.Needs.{needs}
 use native.Mathlib.Omega.{arith}
 use mathlib.Core.Path.{sym, ap₂, _∙_}
@@ -45,7 +46,8 @@ returns-2 : tie.Need-returns-2
 returns-2 c =
     let word = c .before .before .before .before .before .before .before .args .word .now in
     let end = length word - 16 in
-    c .are-same .ensures ∙ ap₂ same (cut-rest word end) (c .before .before .before .parity-of .ensures) ∙ sym (codeword-same word end (omega arith) (omega arith))
+    c .are-same .ensures ∙ ap₂ same (cut-rest word end) (c .before .before .before .parity-of .ensures)
+    ∙ sym (codeword-same word end (omega arith) (omega arith))
 
 pub is-codeword-spec : {M : Type 1} → statement M
 is-codeword-spec =

@@ -1,3 +1,4 @@
+-- Byte by byte: the register has taken the first i bytes (`Fed`), and what it holds after all is the parity (`parity-feed`).
 use borrow.Author.Needs.{needs}
 use native.Mathlib.Omega.{arith}
 use mathlib.Core.Path.{sym, _∙_}

@@ -1,3 +1,4 @@
+-- Place by place: a product plus the byte that moves up (`place`) is the step's; nothing moves up into the last place (`last-place`).
 use borrow.Author.Needs.{needs}
 use native.Mathlib.Omega.{arith}
 use mathlib.Core.Path.{_≡_, ap, _∙_}
@@ -15,7 +16,8 @@ use Rattle.plain_reed_solomon.proofs.shift.Statement.{statement}
 use Rattle.plain_reed_solomon.proofs.shift.Tie as tie
 
 abbrev Inv-loop : tie.InvT-loop
-Inv-loop coefficients byte register leaving next₀ j₀ next j = (j ≤ 15) × (length register ≡ 16) × (length next ≡ 16) × Filled (step times (tail generator) register byte) j next
+Inv-loop coefficients byte register leaving next₀ j₀ next j =
+    (j ≤ 15) × (length register ≡ 16) × (length next ≡ 16) × Filled (step times (tail generator) register byte) j next
 
 abbrev μ-loop : tie.MeasureT-loop
 μ-loop coefficients byte register leaving next₀ j₀ next j = 15 - j

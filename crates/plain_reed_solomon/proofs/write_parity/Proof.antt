@@ -1,3 +1,4 @@
+-- Word by word: the parities of the words before k are written (`parities-more`), and with all eight the payload is the coded one (`all-parities`).
 use borrow.Author.Needs.{needs}
 use native.Mathlib.Omega.{arith}
 use mathlib.Core.Path.{_≡_, sym, ap, _∙_}

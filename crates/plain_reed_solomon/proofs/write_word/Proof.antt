@@ -1,3 +1,4 @@
+-- Byte by byte: the parity bytes left, spread over what is written so far, give what spreading all gives (`spread-turn`); in the end none is left.
 use borrow.Author.Needs.{needs}
 use native.Mathlib.Omega.{arith}
 use mathlib.Core.Path.{_≡_, refl, sym, ap, ap₂, _∙_}
@@ -6,10 +7,10 @@ use native.Mathlib.Nat.{add-zero}
 use lib.ListN.{length, drop, take, length-set}
 use lib.Seq.{length-take-le}
 use Rattle.reed_solomon.specs.Code.{parity}
-use Rattle.interleaving.specs.Payload.{everyEighth}
+use Rattle.reed_solomon.specs.Payload.{everyEighth}
 use Rattle.plain_reed_solomon.specs.Word.{spread, withParity}
 use Rattle.reed_solomon.proofs.Laws.{parity-length}
-use Rattle.interleaving.proofs.Interleaved.{eighth-length, take-eighth}
+use Rattle.reed_solomon.proofs.Interleaved.{eighth-length, take-eighth}
 use Rattle.plain_reed_solomon.proofs.Writes.{spread-turn, spread-end}
 use Rattle.plain_reed_solomon.proofs.write_word.Statement.{statement}
 use Rattle.plain_reed_solomon.proofs.write_word.Tie as tie
@@ -42,7 +43,8 @@ loop-holds c =
     let args = c .before .before .before .before .before .args in
     let payload = args .payload .now in
     let e : c .parity-of .result ≡ parity (everyEighth 239 (args .k) payload) =
-    c .parity-of .ensures ∙ ap (λ t. parity (take 239 t)) (c .before .before .gathered .ensures) ∙ ap parity (take-eighth 239 255 (args .k) payload (omega arith)) in
+    c .parity-of .ensures ∙ ap (λ t. parity (take 239 t)) (c .before .before .gathered .ensures)
+    ∙ ap parity (take-eighth 239 255 (args .k) payload (omega arith)) in
     (search needs, ap length e ∙ parity-length _, refl, ap₂ (λ p n. spread p n payload) e (add-zero (1912 + args .k)))
 
 array-read-payload : tie.Need-array-read-payload Inv-loop μ-loop

@@ -1,3 +1,4 @@
+-- The answer is made of what was joined; that the number after the frame's own is expected is the contract of `next`.
 use mathlib.Core.Path.{ap}
 use Prim.Native.Nat.{ℕ}
 use Rattle.receiver.specs.declared.Expected.the-variants.{Frame}
@@ -11,10 +12,10 @@ next-requires c κs = search needs
 
 returns : tie.Need-returns
 returns c =
-    let at-args = c .before .args in
-    let at-next = c .next in
-    ap (λ (n : ℕ). Applied (at-args .missed) (at-args .joined .packets) (at-args .joined .listed) (record { expected = Frame (record { 0 = n }); held = (at-args .joined .held) }))
-    (at-next .ensures)
+    let given = c .before .args in
+    let done = given .joined in
+    ap (λ (n : ℕ). Applied (given .missed) (done .packets) (done .listed) (record { expected = Frame (record { 0 = n }); held = done .held }))
+    (c .next .ensures)
 
 pub applied-spec : {M : Type 1} → statement M
 applied-spec = tie.close (tie.spec next-requires returns)

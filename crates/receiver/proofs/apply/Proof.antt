@@ -1,7 +1,9 @@
+-- A refusal by either table keeps hold and list; the numbers are the table's (`buffers-first`, `judged`). Else a DATA area is joined (`data-done`),
+-- and of another kind only the count is told (`other-done`).
 use mathlib.Core.Path.{sym, _∙_}
 use Rattle.lent.proofs.Refusals.{refused, kept}
 use Rattle.receiver.specs.declared.ApplyAnswer.the-variants.{Refused}
-use Rattle.receiver.proofs.Applying.{buffers-first, held-inside, held-length, judged, join-ready, data-done, other-done}
+use Rattle.receiver.proofs.Applying.{Judged, buffers-first, held-inside, held-length, judged, join-ready, data-done, other-done}
 use borrow.Author.Needs.{needs}
 use Rattle.receiver.proofs.apply.Statement.{statement}
 use Rattle.receiver.proofs.apply.Tie as tie
@@ -17,14 +19,15 @@ same-length-2 c = search needs
 
 returns : tie.Need-returns
 returns c =
-    let at-args = c .before .before .before .before .before .before .before .args in
-    let at-buffers-refusal = c .before .buffers-refusal in
-    let at-if1 = c .if1 in
-    let e = buffers-first (at-args .header) (at-args .area .now) (at-args .receiver) (at-args .hold .now) (at-args .list .now) (at-buffers-refusal .result) (at-buffers-refusal .ensures) (at-if1 .taken) in
+    let given = c .before .before .before .before .before .before .before .args in
+    let buffers = c .before .buffers-refusal in
+    let applies = c .if1 .taken in
+    let e =
+    buffers-first (given .header) (given .area .now) (given .receiver) (given .hold .now) (given .list .now) (buffers .result) (buffers .ensures) applies in
     record {
-      answer = refused _ _ _ (λ n. Refused n) e (at-if1 .taken);
-      held = kept _ _ _ _ e (at-if1 .taken);
-      listed = kept _ _ _ _ e (at-if1 .taken);
+      answer = refused _ _ _ (λ n. Refused n) e applies;
+      held = kept _ _ _ _ e applies;
+      listed = kept _ _ _ _ e applies;
     }
 
 missed-before-requires : tie.Need-missed-before-requires
@@ -35,26 +38,38 @@ held-after-requires c κs = search needs
 
 slice-reshare-prefix-area-refusal : tie.Need-slice-reshare-prefix-area-refusal
 slice-reshare-prefix-area-refusal c =
-    let at-buffers-refusal = c .before .before .before .before .buffers-refusal in
-    let at-if1 = c .before .before .before .if1 in
-    let at-args = c .before .before .before .before .before .before .before .before .before .before .args in
-    let at-missed-before = c .before .missed-before in
-    let at-held-after = c .held-after in
-    let pass = sym (at-buffers-refusal .ensures) ∙ (at-if1 .left) in
-    held-inside (at-args .area .now) (at-args .receiver) (at-args .hold .now) (at-args .list .now) (at-missed-before .result) (at-held-after .result) pass (at-held-after .ensures)
+    let missed = c .before in
+    let passed = missed .before .before in
+    let given = passed .before .before .before .before .before .before .before .args in
+    held-inside (given .area .now) (given .receiver) (given .hold .now) (given .list .now) (missed .missed-before .result) (c .held-after .result)
+    (sym (passed .before .buffers-refusal .ensures) ∙ passed .if1 .left) (c .held-after .ensures)
 
 slice-aggregate-area-refusal : tie.Need-slice-aggregate-area-refusal
 slice-aggregate-area-refusal c =
-    let at-buffers-refusal = c .before .before .before .before .before .buffers-refusal in
-    let at-if1 = c .before .before .before .before .if1 in
-    let at-args = c .before .before .before .before .before .before .before .before .before .before .before .args in
-    let at-missed-before = c .before .before .missed-before in
-    let at-held-after = c .before .held-after in
-    let pass = sym (at-buffers-refusal .ensures) ∙ (at-if1 .left) in
-    held-length (at-args .area .now) (at-args .receiver) (at-args .hold .now) (at-args .list .now) (at-missed-before .result) (at-held-after .result) pass (at-held-after .ensures)
+    let held = c .before in
+    let missed = held .before in
+    let passed = missed .before .before in
+    let given = passed .before .before .before .before .before .before .before .args in
+    held-length (given .area .now) (given .receiver) (given .hold .now) (given .list .now) (missed .missed-before .result) (held .held-after .result)
+    (sym (passed .before .buffers-refusal .ensures) ∙ passed .if1 .left) (held .held-after .ensures)
 
 area-refusal-requires : tie.Need-area-refusal-requires
 area-refusal-requires c κs = search needs
+
+-- once both tables were asked, their number is the frame's
+judging : (c : tie.After-area-refusal)
+    → let missed = c .before .before .before in
+    let given = missed .before .before .before .before .before .before .before .before .before .args in
+    Judged (given .header) (given .area .now) (given .receiver) (given .hold .now) (given .list .now)
+    (missed .missed-before .result) (c .before .before .held-after .result) (c .area-refusal .result)
+judging c =
+    let held = c .before .before in
+    let missed = held .before in
+    let passed = missed .before .before in
+    let given = passed .before .before .before .before .before .before .before .args in
+    judged (given .header) (given .area .now) (given .receiver) (given .hold .now) (given .list .now)
+    (sym (passed .before .buffers-refusal .ensures) ∙ passed .if1 .left)
+    (missed .missed-before .ensures) (held .held-after .ensures) (c .area-refusal .ensures)
 
 same-length-3 : tie.Need-same-length-3
 same-length-3 c = search needs
@@ -64,19 +79,12 @@ same-length-4 c = search needs
 
 returns-2 : tie.Need-returns-2
 returns-2 c =
-    let at-buffers-refusal = c .before .before .before .before .before .before .before .buffers-refusal in
-    let at-if1 = c .before .before .before .before .before .before .if1 in
-    let at-args = c .before .before .before .before .before .before .before .before .before .before .before .before .before .args in
-    let at-missed-before = c .before .before .before .before .missed-before in
-    let at-held-after = c .before .before .before .held-after in
-    let at-area-refusal = c .before .area-refusal in
-    let at-if2 = c .if2 in
-    let pass = sym (at-buffers-refusal .ensures) ∙ (at-if1 .left) in
-    let k = judged (at-args .header) (at-args .area .now) (at-args .receiver) (at-args .hold .now) (at-args .list .now) pass (at-missed-before .ensures) (at-held-after .ensures) (at-area-refusal .ensures) in
+    let k = judging (c .before) in
+    let applies = c .if2 .taken in
     record {
-      answer = refused _ _ _ (λ n. Refused n) (k .refusal) (at-if2 .taken);
-      held = kept _ _ _ _ (k .refusal) (at-if2 .taken);
-      listed = kept _ _ _ _ (k .refusal) (at-if2 .taken);
+      answer = refused _ _ _ (λ n. Refused n) (k .refusal) applies;
+      held = kept _ _ _ _ (k .refusal) applies;
+      listed = kept _ _ _ _ (k .refusal) applies;
     }
 
 is-data-requires : tie.Need-is-data-requires
@@ -84,18 +92,9 @@ is-data-requires c κs = search needs
 
 join-requires : tie.Need-join-requires
 join-requires c κs =
-    let at-buffers-refusal = c .before .before .before .before .before .before .before .before .before .before .before .buffers-refusal in
-    let at-if1 = c .before .before .before .before .before .before .before .before .before .before .if1 in
-    let at-args = c .before .before .before .before .before .before .before .before .before .before .before .before .before .before .before .before .before .args in
-    let at-missed-before = c .before .before .before .before .before .before .before .before .missed-before in
-    let at-held-after = c .before .before .before .before .before .before .before .held-after in
-    let at-area-refusal = c .before .before .before .before .before .area-refusal in
-    let at-if2 = c .before .before .before .before .if2 in
-    let at-is-data = c .before .before .before .is-data in
-    let at-if3 = c .before .before .if3 in
-    let pass = sym (at-buffers-refusal .ensures) ∙ (at-if1 .left) in
-    let k = judged (at-args .header) (at-args .area .now) (at-args .receiver) (at-args .hold .now) (at-args .list .now) pass (at-missed-before .ensures) (at-held-after .ensures) (at-area-refusal .ensures) in
-    join-ready k (at-if2 .left) (sym (at-is-data .ensures) ∙ (at-if3 .taken))
+    let asked = c .before .before in
+    let told = asked .before in
+    join-ready (judging (told .before .before)) (told .before .if2 .left) (sym (told .is-data .ensures) ∙ asked .if3 .taken)
 
 applied-requires : tie.Need-applied-requires
 applied-requires c κs = search needs
@@ -108,20 +107,11 @@ same-length-6 c = search needs
 
 returns-3 : tie.Need-returns-3
 returns-3 c =
-    let at-buffers-refusal = c .before .before .before .before .before .before .before .before .before .before .before .before .before .before .before .before .before .buffers-refusal in
-    let at-if1 = c .before .before .before .before .before .before .before .before .before .before .before .before .before .before .before .before .if1 in
-    let at-args = c .before .before .before .before .before .before .before .before .before .before .before .before .before .before .before .before .before .before .before .before .before .before .before .args in
-    let at-missed-before = c .before .before .before .before .before .before .before .before .before .before .before .before .before .before .missed-before in
-    let at-held-after = c .before .before .before .before .before .before .before .before .before .before .before .before .before .held-after in
-    let at-area-refusal = c .before .before .before .before .before .before .before .before .before .before .before .area-refusal in
-    let at-applied = c .applied in
-    let at-if2 = c .before .before .before .before .before .before .before .before .before .before .if2 in
-    let at-is-data = c .before .before .before .before .before .before .before .before .before .is-data in
-    let at-if3 = c .before .before .before .before .before .before .before .before .if3 in
-    let at-join = c .before .before .before .before .before .join in
-    let pass = sym (at-buffers-refusal .ensures) ∙ (at-if1 .left) in
-    let k = judged (at-args .header) (at-args .area .now) (at-args .receiver) (at-args .hold .now) (at-args .list .now) pass (at-missed-before .ensures) (at-held-after .ensures) (at-area-refusal .ensures) in
-    data-done k (at-if2 .left) (sym (at-is-data .ensures) ∙ (at-if3 .taken)) (at-applied .ensures) (at-join .ensures)
+    let joined = c .before .before .before .before .before in
+    let asked = joined .before .before .before in
+    let told = asked .before in
+    data-done (judging (told .before .before)) (told .before .if2 .left) (sym (told .is-data .ensures) ∙ asked .if3 .taken) (c .applied .ensures)
+    (joined .join .ensures)
 
 applied-requires-2 : tie.Need-applied-requires-2
 applied-requires-2 c κs = search needs
@@ -134,19 +124,9 @@ same-length-8 c = search needs
 
 returns-4 : tie.Need-returns-4
 returns-4 c =
-    let at-buffers-refusal = c .before .before .before .before .before .before .before .before .before .before .buffers-refusal in
-    let at-if1 = c .before .before .before .before .before .before .before .before .before .if1 in
-    let at-args = c .before .before .before .before .before .before .before .before .before .before .before .before .before .before .before .before .args in
-    let at-missed-before = c .before .before .before .before .before .before .before .missed-before in
-    let at-held-after = c .before .before .before .before .before .before .held-after in
-    let at-area-refusal = c .before .before .before .before .area-refusal in
-    let at-applied2 = c .applied2 in
-    let at-if2 = c .before .before .before .if2 in
-    let at-is-data = c .before .before .is-data in
-    let at-if3 = c .before .if3 in
-    let pass = sym (at-buffers-refusal .ensures) ∙ (at-if1 .left) in
-    let k = judged (at-args .header) (at-args .area .now) (at-args .receiver) (at-args .hold .now) (at-args .list .now) pass (at-missed-before .ensures) (at-held-after .ensures) (at-area-refusal .ensures) in
-    other-done k (at-if2 .left) (sym (at-is-data .ensures) ∙ (at-if3 .left)) (at-applied2 .ensures)
+    let asked = c .before in
+    let told = asked .before in
+    other-done (judging (told .before .before)) (told .before .if2 .left) (sym (told .is-data .ensures) ∙ asked .if3 .left) (c .applied2 .ensures)
 
 pub apply-spec : {M : Type 1} → statement M
 apply-spec =

@@ -1,3 +1,4 @@
+-- Test by test in the definition's order: a length that is wrong answers no, and the list's is the answer where both others are right.
 use borrow.Author.Tests.{eq-eqb, ne-eqb}
 use Rattle.receiver.proofs.are_sized.Statement.{statement}
 use Rattle.receiver.proofs.are_sized.Tie as tie

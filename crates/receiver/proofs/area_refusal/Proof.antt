@@ -1,3 +1,5 @@
+-- By the rows of `areaTable`: only DATA is looked into (`not-looked-into`), what cannot be read is refusal 14 (`against-rules`),
+-- and else the first record tells 15 from none (`by-fit`).
 use mathlib.Core.Path.{sym, ap, _∙_}
 use mathlib.Core.Bool.{Bool, cond}
 use borrow.Author.Tests.{not-true, not-false}
@@ -26,7 +28,8 @@ returns-2 c =
     let at-if1 = c .before .before .if1 in
     let at-is-allowed = c .before .is-allowed in
     let at-if2 = c .if2 in
-    against-rules (at-args .kind) (at-args .area .now) (at-args .held .now) (sym (at-is-data .ensures) ∙ not-false _ (at-if1 .left)) (sym (at-is-allowed .ensures) ∙ not-true _ (at-if2 .taken))
+    against-rules (at-args .kind) (at-args .area .now) (at-args .held .now)
+    (sym (at-is-data .ensures) ∙ not-false _ (at-if1 .left)) (sym (at-is-allowed .ensures) ∙ not-true _ (at-if2 .taken))
 
 first-fits-requires : tie.Need-first-fits-requires
 first-fits-requires c κs =
@@ -43,8 +46,9 @@ returns-3 c =
     let at-if2 = c .before .before .if2 in
     let at-first-fits = c .before .first-fits in
     let at-if3 = c .if3 in
-    let number = by-fit (at-args .kind) (at-args .area .now) (at-args .held .now) (sym (at-is-data .ensures) ∙ not-false _ (at-if1 .left)) _ (sym (at-is-allowed .ensures) ∙ not-false _ (at-if2 .left)) (at-first-fits .ensures) in
-    sym (ap (λ (test : Bool). cond test 0 15) (at-if3 .taken)) ∙ number
+    sym (ap (λ (test : Bool). cond test 0 15) (at-if3 .taken))
+    ∙ by-fit (at-args .kind) (at-args .area .now) (at-args .held .now) (sym (at-is-data .ensures) ∙ not-false _ (at-if1 .left)) _
+    (sym (at-is-allowed .ensures) ∙ not-false _ (at-if2 .left)) (at-first-fits .ensures)
 
 returns-4 : tie.Need-returns-4
 returns-4 c =
@@ -55,8 +59,9 @@ returns-4 c =
     let at-if2 = c .before .before .if2 in
     let at-first-fits = c .before .first-fits in
     let at-if3 = c .if3 in
-    let number = by-fit (at-args .kind) (at-args .area .now) (at-args .held .now) (sym (at-is-data .ensures) ∙ not-false _ (at-if1 .left)) _ (sym (at-is-allowed .ensures) ∙ not-false _ (at-if2 .left)) (at-first-fits .ensures) in
-    sym (ap (λ (test : Bool). cond test 0 15) (at-if3 .left)) ∙ number
+    sym (ap (λ (test : Bool). cond test 0 15) (at-if3 .left))
+    ∙ by-fit (at-args .kind) (at-args .area .now) (at-args .held .now) (sym (at-is-data .ensures) ∙ not-false _ (at-if1 .left)) _
+    (sym (at-is-allowed .ensures) ∙ not-false _ (at-if2 .left)) (at-first-fits .ensures)
 
 pub area-refusal-spec : {M : Type 1} → statement M
 area-refusal-spec =

@@ -1,3 +1,4 @@
+-- Each return gives the number of the first row that applies: sizes (refusal 2) are judged before what is held (refusal 3).
 use mathlib.Core.Path.{sym, _∙_}
 use borrow.Author.Tests.{not-true, not-false, lt-ltb, le-ltb}
 use Rattle.lent.specs.Refusals.{firstOf}

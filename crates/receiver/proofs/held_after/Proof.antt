@@ -1,3 +1,4 @@
+-- What is held stays held exactly where no frame was missed: the definition's choice, case by case.
 use borrow.Author.Tests.{eq-eqb, ne-eqb}
 use Rattle.receiver.proofs.held_after.Statement.{statement}
 use Rattle.receiver.proofs.held_after.Tie as tie

@@ -1,3 +1,4 @@
+-- Where no frame was expected none is missed; else the count is what `Txfn::missed` promises.
 use borrow.Author.Needs.{needs}
 use Rattle.receiver.proofs.missed_before.Statement.{statement}
 use Rattle.receiver.proofs.missed_before.Tie as tie

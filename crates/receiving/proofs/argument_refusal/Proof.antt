@@ -1,3 +1,4 @@
+-- 1 where the taps are not allowed; where they are, the rows behind it are those that `buffers_refusal` ensures.
 use borrow.Author.Tests.{not-true, not-false}
 use mathlib.Core.Path.{sym, _∙_}
 use Rattle.lent.specs.Refusals.{firstOf}

@@ -1,3 +1,4 @@
+-- The table's parts in turn: refused by an argument (`argument-first`), by the frame (`frame-then`), or opened and applied (`opened-done`).
 use mathlib.Core.Path.{sym, _∙_}
 use Rattle.lent.proofs.Refusals.{refused, kept}
 use Rattle.receiving.specs.declared.ReceiveAnswer.the-variants.{Refused}
@@ -20,7 +21,8 @@ returns c =
     let at-args = c .before .before .before .before .before .before .before .args in
     let at-argument-refusal = c .before .argument-refusal in
     let at-if1 = c .if1 in
-    let e = argument-first (at-args .taps) (at-args .frame .now) (at-args .receiver) (at-args .hold .now) (at-args .list .now) (at-argument-refusal .result) (at-argument-refusal .ensures) (at-if1 .taken) in
+    let e = argument-first (at-args .taps) (at-args .frame .now) (at-args .receiver) (at-args .hold .now) (at-args .list .now)
+    (at-argument-refusal .result) (at-argument-refusal .ensures) (at-if1 .taken) in
     record {
       answer = refused _ _ _ (λ n. Refused n) e (at-if1 .taken);
       held = kept _ _ _ _ e (at-if1 .taken);
@@ -62,7 +64,8 @@ returns-2 c =
     let at-opened = c .before .opened in
     let at-open = c .before .before .before .before .«open» in
     let none = sym (at-argument-refusal .ensures) ∙ (at-if1 .left) in
-    let told = frame-then (at-args .taps) (at-args .frame .now) (at-args .receiver) (at-args .hold .now) (at-args .list .now) none _ (sym (at-opened .given .1) ∙ (at-open .ensures .answer)) in
+    let answered = sym (at-opened .given .1) ∙ (at-open .ensures .answer) in
+    let told = frame-then (at-args .taps) (at-args .frame .now) (at-args .receiver) (at-args .hold .now) (at-args .list .now) none _ answered in
     record {
       answer = refused _ _ _ (λ n. Refused n) (told .0) (told .1);
       held = kept _ _ _ _ (told .0) (told .1);
@@ -77,15 +80,18 @@ same-length-6 c = search needs
 
 returns-3 : tie.Need-returns-3
 returns-3 c =
-    let at-argument-refusal = c .before .before .before .before .before .before .before .before .before .before .before .before .before .before .before .before .argument-refusal in
-    let at-if1 = c .before .before .before .before .before .before .before .before .before .before .before .before .before .before .before .if1 in
-    let at-args = c .before .before .before .before .before .before .before .before .before .before .before .before .before .before .before .before .before .before .before .before .before .before .args in
     let at-opened2 = c .before .before .before .before .before .before .before .before .before .before .opened2 in
     let at-open = c .before .before .before .before .before .before .before .before .before .before .before .before .before .«open» in
+    let judged = c .before .before .before .before .before .before .before .before .before .before .before .before .before .before .before in
+    let at-if1 = judged .if1 in
+    let at-argument-refusal = judged .before .argument-refusal in
+    let at-args = judged .before .before .before .before .before .before .before .args in
     let at-apply = c .before .before .before .before .before .apply in
     let at-with-header = c .with-header in
     let none = sym (at-argument-refusal .ensures) ∙ (at-if1 .left) in
-    opened-done (at-args .taps) (at-args .frame .now) (at-args .receiver) (at-args .hold .now) (at-args .list .now) none (sym (at-opened2 .given .1) ∙ (at-open .ensures .answer)) (at-open .ensures .bytes) (at-apply .ensures) (at-with-header .ensures)
+    let answered = sym (at-opened2 .given .1) ∙ (at-open .ensures .answer) in
+    opened-done (at-args .taps) (at-args .frame .now) (at-args .receiver) (at-args .hold .now) (at-args .list .now) none
+    answered (at-open .ensures .bytes) (at-apply .ensures) (at-with-header .ensures)
 
 pub receive-spec : {M : Type 1} → statement M
 receive-spec =

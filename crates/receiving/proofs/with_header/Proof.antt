@@ -1,3 +1,4 @@
+-- By the case of the answer: what was applied gets the header, and a refusal is handed on with its number.
 use borrow.Author.Needs.{needs}
 use Rattle.receiving.proofs.with_header.Statement.{statement}
 use Rattle.receiving.proofs.with_header.Tie as tie

@@ -1,3 +1,4 @@
+-- Byte by byte: the registers have taken the first i bytes (`Fed`), and a turn is one step of the division (`fed-turn`).
 use borrow.Author.Needs.{needs}
 use native.Mathlib.Omega.{arith}
 use Prim.Native.Nat.{_-_, _≤_}

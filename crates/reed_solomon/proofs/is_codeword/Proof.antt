@@ -1,3 +1,4 @@
+-- More than 255 bytes are no codeword (`too-long`); others are one exactly if the last 16 are the parity of those before (`codeword-same`).
 use native.Mathlib.Omega.{arith}
 use mathlib.Core.Path.{sym, ap, _∙_}
 use Prim.Native.Nat.{_-_}

@@ -1,3 +1,4 @@
+-- Place by place the lowest bytes of the registers are taken (`Filled`); they are the parity of the first word, the message (`registers-bytes`).
 use borrow.Author.Needs.{needs}
 use native.Mathlib.Omega.{arith}
 use mathlib.Core.Path.{_≡_, sym, ap, _∙_}
@@ -6,7 +7,7 @@ use lib.ListN.{length, length-map, length-set}
 use Rattle.basics.proofs.Fill.{Filled, filled-more, filled-all}
 use Rattle.basics.proofs.Lists.{bytes-each}
 use Rattle.basics.proofs.Numbers.{byteAt}
-use Rattle.reed_solomon.proofs.Rows.{wordIn, word-at, registers-length, registers-bytes}
+use Rattle.reed_solomon.proofs.Registers.{wordIn, word-at, registers-length, registers-bytes}
 use Rattle.reed_solomon.proofs.parity_of.Statement.{statement}
 use Rattle.reed_solomon.proofs.parity_of.Tie as tie
 
@@ -58,7 +59,8 @@ returns c =
     let fed = c .before .before .feed in
     let message = c .before .before .before .before .args .message .now in
     let known = c .before .before .before .shared-slice-known .given in
-    filled-all (wordIn 0 (fed .result)) (loop .parity) 16 (λ k h. loop .inv .3 k (omega arith)) (loop .inv .2) (length-map (fed .result) (byteAt 0) ∙ loop .inv .1)
+    let size = length-map (fed .result) (byteAt 0) ∙ loop .inv .1 in
+    filled-all (wordIn 0 (fed .result)) (loop .parity) 16 (λ k h. loop .inv .3 k (omega arith)) (loop .inv .2) size
     ∙ ap (wordIn 0) (fed .ensures) ∙ registers-bytes message (bytes-each message (λ i. omega (arith, known i)))
 
 pub parity-of-spec : {M : Type 1} → statement M

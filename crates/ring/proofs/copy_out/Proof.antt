@@ -38,7 +38,8 @@ returns c =
     let copied = c .before .before in
     let given = copied .before .before .before .before .before .before in
     copied .write-at .ensures ∙ ap (written (given .args .out .now) (given .args .to)) (cut-part (given .args .buffer .now) _ (given .args .n)
-    ∙ part-far (given .args .start) (given .args .buffer .now) (given .pre .0) (given .args .at) (given .args .n) (copied .before .before .before .if1 .taken) (given .pre .1))
+    ∙ part-far (given .args .start) (given .args .buffer .now) (given .pre .0) (given .args .at) (given .args .n)
+    (copied .before .before .before .if1 .taken) (given .pre .1))
 
 add-from : tie.Need-add-from
 add-from c = search needs
@@ -68,7 +69,8 @@ returns-2 : tie.Need-returns-2
 returns-2 c =
     let copied = c .before .before in
     let given = copied .before .before .before .before .before .before .before in
-    copied .write-at2 .ensures ∙ ap (written (given .args .out .now) (given .args .to)) (cut-part (given .args .buffer .now) (given .args .start + given .args .at) (given .args .n)
+    copied .write-at2 .ensures ∙ ap (written (given .args .out .now) (given .args .to))
+    (cut-part (given .args .buffer .now) (given .args .start + given .args .at) (given .args .n)
     ∙ part-near (given .args .start) (given .args .buffer .now) (given .pre .0) (given .args .at) (given .args .n) (omega arith))
 
 sub-write-at-3 : tie.Need-sub-write-at-3
@@ -90,7 +92,8 @@ sub-write-at-4 : tie.Need-sub-write-at-4
 sub-write-at-4 c = search needs
 
 slice-aggregate-write-at : tie.Need-slice-aggregate-write-at
-slice-aggregate-write-at c = sym (length-take-le _ (c .before .before .before .before .before .before .before .before .before .before .before .args .buffer .now) (omega arith))
+slice-aggregate-write-at c =
+    sym (length-take-le _ (c .before .before .before .before .before .before .before .before .before .before .before .args .buffer .now) (omega arith))
 
 write-at-requires-4 : tie.Need-write-at-requires-4
 write-at-requires-4 c κs = simp length-take (omega (arith, c .before .before .before .before .write-at3 .kept .0))

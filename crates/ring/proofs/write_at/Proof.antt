@@ -26,7 +26,8 @@ returns c =
     let wrote = c .before .before in
     let given = wrote .before .before .before .before .before in
     wrote .write-at .ensures
-    ∙ ring-far (given .args .buffer .now) (given .args .start) (given .args .at) (given .args .bytes .now) (given .pre .0) (given .pre .1) (wrote .before .before .if1 .taken)
+    ∙ ring-far (given .args .buffer .now) (given .args .start) (given .args .at) (given .args .bytes .now) (given .pre .0) (given .pre .1)
+    (wrote .before .before .if1 .taken)
 
 sub-before : tie.Need-sub-before
 sub-before c = search needs
@@ -44,7 +45,8 @@ returns-2 : tie.Need-returns-2
 returns-2 c =
     let wrote = c .before .before in
     let given = wrote .before .before .before .before .before .before in
-    wrote .write-at2 .ensures ∙ ring-near (given .args .buffer .now) (given .args .start) (given .args .at) (given .args .bytes .now) (given .pre .0) (given .pre .1) (omega arith)
+    wrote .write-at2 .ensures
+    ∙ ring-near (given .args .buffer .now) (given .args .start) (given .args .at) (given .args .bytes .now) (given .pre .0) (given .pre .1) (omega arith)
 
 add-write-at-2 : tie.Need-add-write-at-2
 add-write-at-2 c = search needs
@@ -77,7 +79,8 @@ returns-3 c =
     let given = first .before .before .before .before .before .before .before in
     let before = length (given .args .buffer .now) - given .args .start - given .args .at in
     second .write-at4 .ensures ∙ ap₂ (λ (w s : List ℕ). written w 0 s) (first .write-at3 .ensures) (cut-rest (given .args .bytes .now) before)
-    ∙ ring-over (given .args .buffer .now) (given .args .start) (given .args .at) before (given .args .bytes .now) (given .pre .0) (given .pre .1) (omega arith) (omega arith)
+    ∙ ring-over (given .args .buffer .now) (given .args .start) (given .args .at) before (given .args .bytes .now) (given .pre .0) (given .pre .1)
+    (omega arith) (omega arith)
 
 pub write-at-spec : {M : Type 1} → statement M
 write-at-spec =

@@ -1,3 +1,4 @@
+-- Tap 0 is the lowest digit, which is the remainder by 2 (`digit-zero`); the bound of 25 taps is asked alike in code and definition.
 use mathlib.Core.Path.{sym, ap, ap₂, _∙_}
 use mathlib.Core.Bool.{Bool, _&&_}
 use Prim.Native.Nat.{ℕ}

@@ -66,7 +66,13 @@ returns-5 c =
     let at-if3 = c .before .before .if3 in
     let at-if4 = c .before .if4 in
     let at-args = c .before .before .before .before .before .before .before .before .args in
-    simp (eq-eqb _ _ (at-if1 .left), sym (at-is-ring-whole .ensures) ∙ not-false _ (at-if2 .left), ne-eqb _ _ (at-if3 .left), le-ltb _ _ (at-if4 .left), lt-ltb 32768 ((at-args .used) + 2 + length (at-args .packet .now)) (omega arith))
+    simp (
+      eq-eqb _ _ (at-if1 .left),
+      sym (at-is-ring-whole .ensures) ∙ not-false _ (at-if2 .left),
+      ne-eqb _ _ (at-if3 .left),
+      le-ltb _ _ (at-if4 .left),
+      lt-ltb 32768 ((at-args .used) + 2 + length (at-args .packet .now)) (omega arith),
+    )
 
 returns-6 : tie.Need-returns-6
 unfolding putRefusal firstOf
@@ -77,7 +83,14 @@ returns-6 c =
     let at-if3 = c .before .before .if3 in
     let at-if4 = c .before .if4 in
     let at-args = c .before .before .before .before .before .before .before .before .args in
-    simp (eq-eqb _ _ (at-if1 .left), sym (at-is-ring-whole .ensures) ∙ not-false _ (at-if2 .left), ne-eqb _ _ (at-if3 .left), le-ltb _ _ (at-if4 .left), le-ltb 32768 ((at-args .used) + 2 + length (at-args .packet .now)) (omega (arith, ring-passed _ _ _ (sym (at-is-ring-whole .ensures) ∙ not-false _ (at-if2 .left)) .most)))
+    let whole = sym (at-is-ring-whole .ensures) ∙ not-false _ (at-if2 .left) in
+    simp (
+      eq-eqb _ _ (at-if1 .left),
+      whole,
+      ne-eqb _ _ (at-if3 .left),
+      le-ltb _ _ (at-if4 .left),
+      le-ltb 32768 ((at-args .used) + 2 + length (at-args .packet .now)) (omega (arith, ring-passed _ _ _ whole .most)),
+    )
 
 pub put-refusal-spec : {M : Type 1} → statement M
 put-refusal-spec =

@@ -1,3 +1,4 @@
+-- IDLE where no byte waits and DATA where one does: the two branches are the contract's choice.
 use borrow.Author.Tests.{eq-eqb, ne-eqb}
 use Rattle.sending.proofs.kind_for.Statement.{statement}
 use Rattle.sending.proofs.kind_for.Tie as tie

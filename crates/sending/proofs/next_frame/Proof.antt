@@ -7,6 +7,7 @@ use Rattle.basics.proofs.Lists.{bytes-each}
 use Rattle.lent.specs.Written.{written}
 use Rattle.lent.proofs.Refusals.{refused, kept, accepted}
 use Rattle.header.specs.declared.FrameKind.{FrameKind}
+use Rattle.header.specs.declared.Header.{Header}
 use Rattle.frame.specs.Frame.{frameBytes}
 use Rattle.sending.specs.declared.NextAnswer.the-variants.{Refused}
 use Rattle.sending.proofs.Sending.{NextPassed, next-passed, kind-is, stop-within, freed-is, sent-path}
@@ -86,13 +87,13 @@ returns-2 c =
     let after = c .sender-after .ensures in
     let kind = named .kind-for .ensures ∙ kind-is p (bytes-each (given .queue .now) (λ i. omega (arith, known .slice-known .given i))) in
     let freed = freed-is p (filled .fill .ensures) (freeing .free-front .ensures) in
+    let header : FrameKind → Header = λ k. record { txfn = given .sender .next; kind = k; fields = given .fields } in
     record {
       answer = accepted _ _ _ _ _ number (judged .if1 .left) (sent-path (after .0 ∙ freed .begins) (after .1 ∙ freed .count) (after .2) kind);
       bytes = accepted _ _ _ _ _ number (judged .if1 .left) (freed .bytes);
       frame = accepted _ _ _ _ _ number (judged .if1 .left)
           (built .build .ensures
-          ∙ ap₂ (λ (k : FrameKind) (l : List ℕ). written (given .out .now) 0 (frameBytes (given .taps) (record { txfn = given .sender .next; kind = k; fields = given .fields }) l))
-          kind (filled .fill .ensures .filled));
+          ∙ ap₂ (λ (k : FrameKind) (l : List ℕ). written (given .out .now) 0 (frameBytes (given .taps) (header k) l)) kind (filled .fill .ensures .filled));
     }
 
 pub next-frame-spec : {M : Type 1} → statement M

@@ -46,7 +46,12 @@ returns-4 c =
     let at-if3 = c .before .before .if3 in
     let at-is-ring-whole = c .before .is-ring-whole in
     let at-if4 = c .if4 in
-    simp (sym (at-are-taps .ensures) ∙ not-false _ (at-if1 .left), eq-eqb _ _ (at-if2 .left), le-leb _ _ (at-if3 .left), sym (at-is-ring-whole .ensures) ∙ not-true _ (at-if4 .taken))
+    simp (
+      sym (at-are-taps .ensures) ∙ not-false _ (at-if1 .left),
+      eq-eqb _ _ (at-if2 .left),
+      le-leb _ _ (at-if3 .left),
+      sym (at-is-ring-whole .ensures) ∙ not-true _ (at-if4 .taken),
+    )
 
 fields-fit-requires : tie.Need-fields-fit-requires
 fields-fit-requires c κs = search needs
@@ -62,7 +67,13 @@ returns-5 c =
     let at-if4 = c .before .before .if4 in
     let at-fields-fit = c .before .fields-fit in
     let at-if5 = c .if5 in
-    simp (sym (at-are-taps .ensures) ∙ not-false _ (at-if1 .left), eq-eqb _ _ (at-if2 .left), le-leb _ _ (at-if3 .left), sym (at-is-ring-whole .ensures) ∙ not-false _ (at-if4 .left), sym (at-fields-fit .ensures) ∙ (at-if5 .taken))
+    simp (
+      sym (at-are-taps .ensures) ∙ not-false _ (at-if1 .left),
+      eq-eqb _ _ (at-if2 .left),
+      le-leb _ _ (at-if3 .left),
+      sym (at-is-ring-whole .ensures) ∙ not-false _ (at-if4 .left),
+      sym (at-fields-fit .ensures) ∙ (at-if5 .taken),
+    )
 
 returns-6 : tie.Need-returns-6
 unfolding nextRefusal firstOf
@@ -75,7 +86,13 @@ returns-6 c =
     let at-if4 = c .before .before .if4 in
     let at-fields-fit = c .before .fields-fit in
     let at-if5 = c .if5 in
-    simp (sym (at-are-taps .ensures) ∙ not-false _ (at-if1 .left), eq-eqb _ _ (at-if2 .left), le-leb _ _ (at-if3 .left), sym (at-is-ring-whole .ensures) ∙ not-false _ (at-if4 .left), sym (at-fields-fit .ensures) ∙ (at-if5 .left))
+    simp (
+      sym (at-are-taps .ensures) ∙ not-false _ (at-if1 .left),
+      eq-eqb _ _ (at-if2 .left),
+      le-leb _ _ (at-if3 .left),
+      sym (at-is-ring-whole .ensures) ∙ not-false _ (at-if4 .left),
+      sym (at-fields-fit .ensures) ∙ (at-if5 .left),
+    )
 
 pub next-refusal-spec : {M : Type 1} → statement M
 next-refusal-spec =

@@ -1,3 +1,4 @@
+-- What `entry` ensures, as the numbers that `flat_entry` ensures of it.
 use mathlib.Core.Path.{ap, _∙_}
 use Rattle.flat.specs.Answers.{flatEntry}
 use borrow.Author.Needs.{needs}

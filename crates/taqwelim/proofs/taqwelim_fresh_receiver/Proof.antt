@@ -1,5 +1,6 @@
+-- The library's fresh receiver, as the numbers that `flat_receiver` ensures of it.
 use mathlib.Core.Path.{ap, _∙_}
-use Rattle.flat_states.specs.States.{flatReceiver}
+use Rattle.flat.specs.States.{flatReceiver}
 use borrow.Author.Needs.{needs}
 use Rattle.taqwelim.proofs.taqwelim_fresh_receiver.Statement.{statement}
 use Rattle.taqwelim.proofs.taqwelim_fresh_receiver.Tie as tie

@@ -1,5 +1,6 @@
+-- The library's fresh sender, as the numbers that `flat_sender` ensures of it.
 use mathlib.Core.Path.{ap, _∙_}
-use Rattle.flat_states.specs.States.{flatSender}
+use Rattle.flat.specs.States.{flatSender}
 use borrow.Author.Needs.{needs}
 use Rattle.taqwelim.proofs.taqwelim_fresh_sender.Statement.{statement}
 use Rattle.taqwelim.proofs.taqwelim_fresh_sender.Tie as tie

@@ -1,3 +1,4 @@
+-- The outcome is that of the library's `next_frame` on what `fields_of` and `sender_of` ensure, and C gets its answer by `flat_next`.
 use borrow.Author.Needs.{needs}
 use Rattle.taqwelim.proofs.taqwelim_next_frame.Statement.{statement}
 use Rattle.taqwelim.proofs.taqwelim_next_frame.Tie as tie

@@ -1,3 +1,4 @@
+-- What `entry` ensures at the position, as the place that `flat_packet` ensures of it.
 use mathlib.Core.Path.{ap, _∙_}
 use Rattle.flat.specs.Answers.{flatPacket}
 use borrow.Author.Needs.{needs}

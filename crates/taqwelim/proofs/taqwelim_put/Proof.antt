@@ -1,3 +1,4 @@
+-- The outcome is that of the library's `put` on the sender that `sender_of` ensures, and C gets its answer by `flat_put`.
 use borrow.Author.Needs.{needs}
 use Rattle.taqwelim.proofs.taqwelim_put.Statement.{statement}
 use Rattle.taqwelim.proofs.taqwelim_put.Tie as tie

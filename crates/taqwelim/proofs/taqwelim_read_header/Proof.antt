@@ -1,3 +1,4 @@
+-- What `read_header` ensures, as the numbers that `flat_read` ensures of it.
 use mathlib.Core.Path.{ap, _∙_}
 use Rattle.flat.specs.Answers.{flatRead}
 use borrow.Author.Needs.{needs}

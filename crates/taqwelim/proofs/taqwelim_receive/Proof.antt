@@ -1,3 +1,4 @@
+-- The outcome is that of the library's `receive` on the receiver that `receiver_of` ensures, and C gets its answer by `flat_receive`.
 use borrow.Author.Needs.{needs}
 use Rattle.taqwelim.proofs.taqwelim_receive.Statement.{statement}
 use Rattle.taqwelim.proofs.taqwelim_receive.Tie as tie

@@ -1,3 +1,4 @@
+-- The code divides once by a power of 256, `highFirst` by 256 again and again: the same bytes (`div-div-eq-div-mul`).
 use native.Mathlib.Nat.{div-div-eq-div-mul}
 use Rattle.frame.specs.Frame.{areaCheck}
 use borrow.Author.Needs.{needs}

@@ -1,10 +1,11 @@
+-- Area and check sum are the first 1,912 of the 2,040 bytes (`written-front`), and by `write_parity` these are the payload's data.
 use mathlib.Core.Path.{ap, _∙_}
 use mathlib.Core.List.{_++_}
 use lib.ListN.{take}
 use Rattle.basics.specs.Lists.{zeros}
 use Rattle.lent.specs.Written.{written}
 use Rattle.lent.proofs.Written.{written-front}
-use Rattle.interleaving.specs.Payload.{codedPayload}
+use Rattle.reed_solomon.specs.Payload.{codedPayload}
 use Rattle.frame.specs.Frame.{areaPayload, areaCheck}
 use Rattle.frame.proofs.Laws.{data-length}
 use borrow.Author.Needs.{needs}

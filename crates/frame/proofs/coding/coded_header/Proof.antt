@@ -1,3 +1,4 @@
+-- The standard codes the header behind 223 zeros; the code leaves them out, since zeros in front change no parity (`parity-zeros`).
 use mathlib.Core.Path.{sym, ap, _∙_}
 use mathlib.Core.List.{_++_}
 use Rattle.reed_solomon.specs.Code.{parity}

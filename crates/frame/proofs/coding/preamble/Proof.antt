@@ -1,3 +1,4 @@
+-- The constant's nine bytes are the definition's.
 use mathlib.Core.Path.{refl}
 use Rattle.frame.proofs.coding.preamble.Statement.{statement}
 use Rattle.frame.proofs.coding.preamble.Tie as tie

@@ -1,3 +1,4 @@
+-- Header and payload fill the 2,072 bytes (`payload-length`, `written-whole`), which are then scrambled as one.
 use mathlib.Core.Path.{_≡_, sym, ap, ap₂, _∙_}
 use mathlib.Core.List.{_++_}
 use Prim.Native.Nat.{ℕ, _+_}

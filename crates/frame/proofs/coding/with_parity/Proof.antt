@@ -1,3 +1,4 @@
+-- The 16 bytes and their 16 bytes of parity fill the 32 (`parity-length`, `written-whole`).
 use mathlib.Core.Path.{_≡_, sym, ap, ap₂, _∙_}
 use mathlib.Core.List.{_++_}
 use Prim.Native.Nat.{ℕ, _+_}
@@ -28,8 +29,10 @@ returns : tie.Need-returns
 returns c =
     let at-write-both = c .before .write-both in
     let at-parity-of = c .before .before .before .before .parity-of in
+    let at-pre = c .before .before .before .before .before .before .pre in
     let bytes = c .before .before .before .before .before .before .args .bytes .now in
-    let long : length (bytes ++ parity bytes) ≡ 32 = length-append bytes (parity bytes) ∙ ap₂ (λ (a b : ℕ). a + b) (c .before .before .before .before .before .before .pre) (parity-length bytes) in
+    let long : length (bytes ++ parity bytes) ≡ 32 =
+    length-append bytes (parity bytes) ∙ ap₂ (λ (a b : ℕ). a + b) at-pre (parity-length bytes) in
     at-write-both .ensures ∙ ap (λ l. written (zeros 32) 0 (bytes ++ l)) (at-parity-of .ensures)
     ∙ written-whole (zeros 32) (bytes ++ parity bytes) (long ∙ sym (zeros-length 32))
 

@@ -1,3 +1,4 @@
+-- Writing the second part where the first ends is writing both as one (`written-append`), since together they are within the buffer.
 use mathlib.Core.Path.{sym, ap, _∙_}
 use native.Mathlib.Omega.{arith}
 use native.Mathlib.Nat.{zero-add}

@@ -1,3 +1,4 @@
+-- Byte by byte: the code divides once by a power of 256, `lowFirst` by 256 again and again (`div-div-eq-div-mul`).
 use native.Mathlib.Nat.{div-one, div-div-eq-div-mul}
 use Rattle.header.specs.Header.{fieldBytes}
 use borrow.Author.Needs.{needs}
@@ -75,7 +76,24 @@ returns c =
     let at-flags-byte = c .before .before .before .before .before .before .before .before .before .flags-byte in
     let at-channel-byte = c .before .before .channel-byte in
     let at-payload = c .before .before .before .before .before .before .before .before .before .before .before .before .before .before .payload in
-    simp (at-byte .ensures, at-byte2 .ensures, at-byte3 .ensures, at-byte4 .ensures, at-byte5 .ensures, at-byte6 .ensures, at-byte7 .ensures, at-byte8 .ensures, at-byte9 .ensures, at-byte10 .ensures, at-byte11 .ensures, at-flags-byte .ensures, at-channel-byte .ensures, at-payload .ensures, div-one, div-div-eq-div-mul)
+    simp (
+      at-byte .ensures,
+      at-byte2 .ensures,
+      at-byte3 .ensures,
+      at-byte4 .ensures,
+      at-byte5 .ensures,
+      at-byte6 .ensures,
+      at-byte7 .ensures,
+      at-byte8 .ensures,
+      at-byte9 .ensures,
+      at-byte10 .ensures,
+      at-byte11 .ensures,
+      at-flags-byte .ensures,
+      at-channel-byte .ensures,
+      at-payload .ensures,
+      div-one,
+      div-div-eq-div-mul,
+    )
 
 pub field-bytes-spec : {M : Type 1} → statement M
 field-bytes-spec =

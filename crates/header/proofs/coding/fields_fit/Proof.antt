@@ -1,3 +1,4 @@
+-- An early return for each test that fails; that RXFN fits in 16 bits is not tested, for its type has no more.
 use Prim.Native.Nat.{_<_}
 use borrow.Author.Tests.{lt-ltb, le-ltb, not-true, not-false}
 use mathlib.Core.Path.{sym, _∙_}
@@ -24,7 +25,8 @@ returns-2 c =
     let at-rxfn-rule = c .before .before .before .rxfn-rule in
     let at-if1 = c .before .before .if1 in
     let at-if2 = c .if2 in
-    let rxfn-fits : at-args .fields .rxfn .0 < 65536 = omega arith in simp (sym (at-rxfn-rule .ensures) ∙ not-false _ (at-if1 .left), lt-ltb _ _ rxfn-fits, le-ltb _ _ (at-if2 .taken))
+    let rxfn-fits : at-args .fields .rxfn .0 < 65536 = omega arith in
+    simp (sym (at-rxfn-rule .ensures) ∙ not-false _ (at-if1 .left), lt-ltb _ _ rxfn-fits, le-ltb _ _ (at-if2 .taken))
 
 returns-3 : tie.Need-returns-3
 unfolding fieldsFit
@@ -34,7 +36,8 @@ returns-3 c =
     let at-if1 = c .before .before .before .before .if1 in
     let at-if2 = c .before .before .if2 in
     let at-if3 = c .if3 in
-    let rxfn-fits : at-args .fields .rxfn .0 < 65536 = omega arith in simp (sym (at-rxfn-rule .ensures) ∙ not-false _ (at-if1 .left), lt-ltb _ _ rxfn-fits, lt-ltb _ _ (at-if2 .left), le-ltb _ _ (at-if3 .taken))
+    let rxfn-fits : at-args .fields .rxfn .0 < 65536 = omega arith in
+    simp (sym (at-rxfn-rule .ensures) ∙ not-false _ (at-if1 .left), lt-ltb _ _ rxfn-fits, lt-ltb _ _ (at-if2 .left), le-ltb _ _ (at-if3 .taken))
 
 returns-4 : tie.Need-returns-4
 unfolding fieldsFit
@@ -45,7 +48,14 @@ returns-4 c =
     let at-if2 = c .before .before .before .before .if2 in
     let at-if3 = c .before .before .if3 in
     let at-if4 = c .if4 in
-    let rxfn-fits : at-args .fields .rxfn .0 < 65536 = omega arith in simp (sym (at-rxfn-rule .ensures) ∙ not-false _ (at-if1 .left), lt-ltb _ _ rxfn-fits, lt-ltb _ _ (at-if2 .left), lt-ltb _ _ (at-if3 .left), le-ltb _ _ (at-if4 .taken))
+    let rxfn-fits : at-args .fields .rxfn .0 < 65536 = omega arith in
+    simp (
+      sym (at-rxfn-rule .ensures) ∙ not-false _ (at-if1 .left),
+      lt-ltb _ _ rxfn-fits,
+      lt-ltb _ _ (at-if2 .left),
+      lt-ltb _ _ (at-if3 .left),
+      le-ltb _ _ (at-if4 .taken),
+    )
 
 message-fits-requires : tie.Need-message-fits-requires
 message-fits-requires c κs = search needs
@@ -60,7 +70,15 @@ returns-5 c =
     let at-if3 = c .before .before .before .if3 in
     let at-if4 = c .before .if4 in
     let at-message-fits = c .message-fits in
-    let rxfn-fits : at-args .fields .rxfn .0 < 65536 = omega arith in simp (sym (at-rxfn-rule .ensures) ∙ not-false _ (at-if1 .left), lt-ltb _ _ rxfn-fits, lt-ltb _ _ (at-if2 .left), lt-ltb _ _ (at-if3 .left), lt-ltb _ _ (at-if4 .left), at-message-fits .ensures)
+    let rxfn-fits : at-args .fields .rxfn .0 < 65536 = omega arith in
+    simp (
+      sym (at-rxfn-rule .ensures) ∙ not-false _ (at-if1 .left),
+      lt-ltb _ _ rxfn-fits,
+      lt-ltb _ _ (at-if2 .left),
+      lt-ltb _ _ (at-if3 .left),
+      lt-ltb _ _ (at-if4 .left),
+      at-message-fits .ensures,
+    )
 
 pub fields-fit-spec : {M : Type 1} → statement M
 fields-fit-spec =

@@ -1,3 +1,4 @@
+-- 14 bytes of fields and the two of their CRC-16 fill the 16 (`fields-length`, `written-parts`).
 use mathlib.Core.Path.{_≡_, refl, ap, _∙_}
 use native.Mathlib.Nat.{div-one}
 use mathlib.Core.List.{List, [], _∷_, _++_}
@@ -60,8 +61,10 @@ returns c =
     let at-write-at = c .before .before .before .before .before .write-at in
     let check : List ℕ = (at-byte .result) ∷ (at-byte2 .result) ∷ [] in
     let fields : List ℕ = at-field-bytes .result in
-    let joined : fields ++ check ≡ headerBytes (at-args .header) = simp (at-byte .ensures, at-byte2 .ensures, div-one, at-crc-16 .ensures, at-field-bytes .ensures) in
-    at-write-at2 .ensures ∙ ap (λ l. written l 14 check) (at-write-at .ensures) ∙ written-parts (zeros 16) fields check 14 (ap length (at-field-bytes .ensures) ∙ fields-length (at-args .header)) refl ∙ joined
+    let joined : fields ++ check ≡ headerBytes (at-args .header) =
+    simp (at-byte .ensures, at-byte2 .ensures, div-one, at-crc-16 .ensures, at-field-bytes .ensures) in
+    at-write-at2 .ensures ∙ ap (λ l. written l 14 check) (at-write-at .ensures)
+    ∙ written-parts (zeros 16) fields check 14 (ap length (at-field-bytes .ensures) ∙ fields-length (at-args .header)) refl ∙ joined
 
 pub header-bytes-spec : {M : Type 1} → statement M
 header-bytes-spec =

@@ -1,3 +1,4 @@
+-- With ACK-valid every RXFN goes by the rule, and without it the rule is that RXFN is 0.
 use borrow.Author.Needs.{needs}
 use Rattle.header.proofs.coding.rxfn_rule.Statement.{statement}
 use Rattle.header.proofs.coding.rxfn_rule.Tie as tie

@@ -1,3 +1,4 @@
+-- All eight reads are inside the buffer, and eight bytes, each worth 256 times the one before, are the number that stands there (`number-at`).
 use borrow.Author.Needs.{needs}
 use mathlib.Core.Path.{_∙_}
 use Rattle.lent.proofs.Bytes.{number-at}

@@ -1,3 +1,4 @@
+-- The eight remainders are the number's bytes, the lowest first (`low-bytes`), and `write_at` writes them.
 use borrow.Author.Needs.{needs}
 use mathlib.Core.Path.{ap, _∙_}
 use Rattle.lent.specs.Written.{written}

@@ -1,3 +1,4 @@
+-- Number by number: the buffer is as one write of the bytes of the first i leaves it (`numbers-turn`), so that in the end all are written.
 use borrow.Author.Needs.{needs}
 use native.Mathlib.Omega.{arith}
 use mathlib.Core.Path.{_≡_, refl, ap, _∙_}
@@ -12,7 +13,9 @@ use Rattle.lent.proofs.numbers.write_numbers.Statement.{statement}
 use Rattle.lent.proofs.numbers.write_numbers.Tie as tie
 
 abbrev Inv-loop : tie.InvT-loop
-Inv-loop buffer₀ numbers i₀ buffer i = (i ≤ length numbers) × (8 * length numbers ≤ length buffer₀) × (length buffer ≡ length buffer₀) × (buffer ≡ written buffer₀ 0 (bytesOf (take i numbers)))
+Inv-loop buffer₀ numbers i₀ buffer i =
+    (i ≤ length numbers) × (8 * length numbers ≤ length buffer₀) × (length buffer ≡ length buffer₀)
+    × (buffer ≡ written buffer₀ 0 (bytesOf (take i numbers)))
 
 abbrev μ-loop : tie.MeasureT-loop
 μ-loop buffer₀ numbers i₀ buffer i = length numbers - i

@@ -4,7 +4,7 @@ use mathlib.Core.Path.{sym, ap, _∙_}
 use borrow.Author.Tests.{not-true, not-false}
 use lib.Seq.{length-take-le}
 use Rattle.basics.proofs.Lists.{cut-rest}
-use Rattle.interleaving.specs.Payload.{areCodewords}
+use Rattle.reed_solomon.specs.Payload.{areCodewords}
 use Rattle.lent.specs.Refusals.{firstOf}
 use Rattle.opening.proofs.Laws.{header-first, payload-then}
 use borrow.Author.Needs.{needs}
@@ -45,7 +45,8 @@ returns-2 c =
     let at-if1 = c .before .before .before .if1 in
     let at-header-refusal = c .before .header-refusal in
     let at-if2 = c .if2 in
-    header-first (at-args .body .now) (sym (at-is-codeword .ensures) ∙ not-false _ (at-if1 .left)) (at-header-refusal .result) (at-header-refusal .ensures) (at-if2 .taken)
+    let word = sym (at-is-codeword .ensures) ∙ not-false _ (at-if1 .left) in
+    header-first (at-args .body .now) word (at-header-refusal .result) (at-header-refusal .ensures) (at-if2 .taken)
 
 sub-are-codewords : tie.Need-sub-are-codewords
 sub-are-codewords c = search needs
@@ -69,7 +70,10 @@ returns-3 c =
     let at-if2 = c .before .before .before .if2 in
     let at-are-codewords = c .before .are-codewords in
     let at-if3 = c .if3 in
-    sym (payload-then (at-args .body .now) (sym (at-is-codeword .ensures) ∙ not-false _ (at-if1 .left)) (sym (at-header-refusal .ensures) ∙ (at-if2 .left)) ∙ simp (ap areCodewords (sym (cut-rest (at-args .body .now) 32)) ∙ sym (at-are-codewords .ensures) ∙ not-true _ (at-if3 .taken)))
+    let word = sym (at-is-codeword .ensures) ∙ not-false _ (at-if1 .left) in
+    let none = sym (at-header-refusal .ensures) ∙ (at-if2 .left) in
+    let words = ap areCodewords (sym (cut-rest (at-args .body .now) 32)) ∙ sym (at-are-codewords .ensures) ∙ not-true _ (at-if3 .taken) in
+    sym (payload-then (at-args .body .now) word none ∙ simp words)
 
 is-area-checked-requires : tie.Need-is-area-checked-requires
 is-area-checked-requires c κs = search needs
@@ -86,7 +90,10 @@ returns-4 c =
     let at-if3 = c .before .before .if3 in
     let at-is-area-checked = c .before .is-area-checked in
     let at-if4 = c .if4 in
-    sym (payload-then (at-args .body .now) (sym (at-is-codeword .ensures) ∙ not-false _ (at-if1 .left)) (sym (at-header-refusal .ensures) ∙ (at-if2 .left)) ∙ simp (ap areCodewords (sym (cut-rest (at-args .body .now) 32)) ∙ sym (at-are-codewords .ensures) ∙ not-false _ (at-if3 .left), sym (at-is-area-checked .ensures) ∙ (at-if4 .taken)))
+    let word = sym (at-is-codeword .ensures) ∙ not-false _ (at-if1 .left) in
+    let none = sym (at-header-refusal .ensures) ∙ (at-if2 .left) in
+    let words = ap areCodewords (sym (cut-rest (at-args .body .now) 32)) ∙ sym (at-are-codewords .ensures) ∙ not-false _ (at-if3 .left) in
+    sym (payload-then (at-args .body .now) word none ∙ simp (words, sym (at-is-area-checked .ensures) ∙ (at-if4 .taken)))
 
 returns-5 : tie.Need-returns-5
 unfolding firstOf
@@ -100,7 +107,10 @@ returns-5 c =
     let at-if3 = c .before .before .if3 in
     let at-is-area-checked = c .before .is-area-checked in
     let at-if4 = c .if4 in
-    sym (payload-then (at-args .body .now) (sym (at-is-codeword .ensures) ∙ not-false _ (at-if1 .left)) (sym (at-header-refusal .ensures) ∙ (at-if2 .left)) ∙ simp (ap areCodewords (sym (cut-rest (at-args .body .now) 32)) ∙ sym (at-are-codewords .ensures) ∙ not-false _ (at-if3 .left), sym (at-is-area-checked .ensures) ∙ (at-if4 .left)))
+    let word = sym (at-is-codeword .ensures) ∙ not-false _ (at-if1 .left) in
+    let none = sym (at-header-refusal .ensures) ∙ (at-if2 .left) in
+    let words = ap areCodewords (sym (cut-rest (at-args .body .now) 32)) ∙ sym (at-are-codewords .ensures) ∙ not-false _ (at-if3 .left) in
+    sym (payload-then (at-args .body .now) word none ∙ simp (words, sym (at-is-area-checked .ensures) ∙ (at-if4 .left)))
 
 pub inner-refusal-spec : {M : Type 1} → statement M
 inner-refusal-spec =

@@ -1,3 +1,4 @@
+-- The parts lent to the two calls are those of the definition: the area, and the four bytes behind it, from 1,940 on.
 use mathlib.Core.Path.{ap, _∙_}
 use lib.ListN.{take, drop}
 use Rattle.opening.specs.Opening.{areaChecked}

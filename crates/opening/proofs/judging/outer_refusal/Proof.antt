@@ -1,3 +1,4 @@
+-- Each return gives the number of the first row that applies; the row of 2 tests two lengths, one return for each.
 use native.Mathlib.Omega.{arith}
 use mathlib.Core.Path.{sym, ap, _∙_}
 use borrow.Author.Tests.{le-leb, lt-leb, eq-eqb, ne-eqb, not-true, not-false}
@@ -61,7 +62,12 @@ returns-4 c =
     let at-preamble = c .before .before .before .before .preamble in
     let at-are-same = c .before .are-same in
     let at-if4 = c .if4 in
-    simp (sym (at-are-taps .ensures) ∙ not-false _ (at-if1 .left), eq-eqb _ _ (at-if2 .left), le-leb _ _ (at-if3 .left), ap (same (take 9 (at-args .frame .now))) (sym (at-preamble .ensures)) ∙ sym (at-are-same .ensures) ∙ (at-if4 .taken))
+    simp (
+      sym (at-are-taps .ensures) ∙ not-false _ (at-if1 .left),
+      eq-eqb _ _ (at-if2 .left),
+      le-leb _ _ (at-if3 .left),
+      ap (same (take 9 (at-args .frame .now))) (sym (at-preamble .ensures)) ∙ sym (at-are-same .ensures) ∙ (at-if4 .taken),
+    )
 
 returns-5 : tie.Need-returns-5
 unfolding firstOf
@@ -74,7 +80,12 @@ returns-5 c =
     let at-preamble = c .before .before .before .before .preamble in
     let at-are-same = c .before .are-same in
     let at-if4 = c .if4 in
-    simp (sym (at-are-taps .ensures) ∙ not-false _ (at-if1 .left), eq-eqb _ _ (at-if2 .left), le-leb _ _ (at-if3 .left), ap (same (take 9 (at-args .frame .now))) (sym (at-preamble .ensures)) ∙ sym (at-are-same .ensures) ∙ (at-if4 .left))
+    simp (
+      sym (at-are-taps .ensures) ∙ not-false _ (at-if1 .left),
+      eq-eqb _ _ (at-if2 .left),
+      le-leb _ _ (at-if3 .left),
+      ap (same (take 9 (at-args .frame .now))) (sym (at-preamble .ensures)) ∙ sym (at-are-same .ensures) ∙ (at-if4 .left),
+    )
 
 pub outer-refusal-spec : {M : Type 1} → statement M
 outer-refusal-spec =

@@ -1,3 +1,4 @@
+-- What follows the preamble fills the 2,072 bytes (`written-whole`), and scrambling is by its contract what the definition does with it.
 use native.Mathlib.Omega.{arith}
 use mathlib.Core.Path.{ap, _∙_}
 use lib.ListN.{drop, length-drop}

@@ -1,3 +1,4 @@
+-- The 17 coefficients are the product of the standard's 16 factors, which `generator-is` multiplies out.
 use mathlib.Core.Path.{sym}
 use Rattle.reed_solomon.proofs.Factors.{generator-is}
 use Rattle.reed_solomon.proofs.register.generator.Statement.{statement}

@@ -1,9 +1,10 @@
+-- The 16 places written out, one product each (`placed`), are one step of the division of all eight words (`shifted`).
 use borrow.Author.Needs.{needs}
 use mathlib.Core.Path.{ap}
 use mathlib.Core.List.{[], _∷_}
 use Rattle.basics.specs.Lists.{entries}
 use Rattle.division.specs.Division.{plus, scale}
-use Rattle.reed_solomon.proofs.Rows.{placed, shifted}
+use Rattle.reed_solomon.proofs.Registers.{placed, shifted}
 use Rattle.reed_solomon.proofs.register.shift.Statement.{statement}
 use Rattle.reed_solomon.proofs.register.shift.Tie as tie
 

@@ -49,7 +49,8 @@ loop-again : tie.Need-loop-again Inv-loop μ-loop
 loop-again c =
     let turn = c .before .before in
     let sums = c .two-sums-at .ensures in
-    (omega arith, extending-by-two-turn (turn .before .loop .inv .1) (turn .before .before .before .before .pre .0) (turn .loop-test .taken) (sums .0) (sums .1))
+    let given = turn .before .before .before .before .pre in
+    (omega arith, extending-by-two-turn (turn .before .loop .inv .1) (given .0) (turn .loop-test .taken) (sums .0) (sums .1))
 
 same-length : tie.Need-same-length Inv-loop μ-loop
 same-length c = search needs

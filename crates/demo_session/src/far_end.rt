@@ -1,0 +1,154 @@
+// The far end: what arrives is received, and the packets that come out go to the recorder and the tuner.
+ghost use Prim.Native.Nat.{_≤_};
+ghost use lib.ListN.{length};
+ghost use Rattle.basics.specs.Sizes.{frameSize};
+use crate::TAPS;
+use crate::readers;
+use crate::readers::Readers;
+use basics::sizes;
+use demo_report::ledger;
+use demo_report::ledger::Ledger;
+use demo_report::table;
+use demo_report::totals;
+use demo_report::totals::Totals;
+use demo_scenario::beam;
+use demo_scenario::beam::Fate;
+use receiver::Receiver;
+use receiving::ReceiveAnswer;
+
+pub struct FarEnd {
+    pub receiver: Receiver,
+    pub readers: Readers,
+    pub totals: Totals,
+    // The blocks of which a part was lost or refused.
+    pub broken: Ledger,
+}
+
+impl FarEnd {
+    pub fn fresh() -> FarEnd {
+        FarEnd {
+            receiver: Receiver::fresh(),
+            readers: Readers::new(),
+            totals: Totals::none(),
+            broken: Ledger::new(),
+        }
+    }
+
+    fn with_received(self, receiver: Receiver, readers: Readers, missed: u16) -> FarEnd {
+        let totals = self.totals.with_received(missed);
+        let broken = self.broken;
+        FarEnd {
+            receiver,
+            readers,
+            totals,
+            broken,
+        }
+    }
+
+    // With a frame lost: what it carries, blocks from `first` up to the one before `end`, does not come out.
+    fn with_lost(self, first: u16, end: u16) -> FarEnd {
+        let mut next = self;
+        let totals = self.totals.with_lost();
+        let broken = self.broken.with_all(first, end);
+        next.totals = totals;
+        next.broken = broken;
+        next
+    }
+
+    // With a frame refused: the same.
+    fn with_refused(self, first: u16, end: u16) -> FarEnd {
+        let mut next = self;
+        let totals = self.totals.with_refused();
+        let broken = self.broken.with_all(first, end);
+        next.totals = totals;
+        next.broken = broken;
+        next
+    }
+
+    // With the receiver's answer to a frame, whose packets stand in the list.
+    fn with_answer(self, answer: ReceiveAnswer, first: u16, end: u16, list: &[u8]) -> FarEnd {
+        match answer {
+            ReceiveAnswer::Received {
+                missed,
+                packets,
+                listed,
+                receiver,
+                ..
+            } => {
+                table::received(missed, packets);
+                let before = self.readers;
+                let readers = readers::read_out(before, demo_report::front(list, listed), packets);
+                self.with_received(receiver, readers, missed)
+            }
+            ReceiveAnswer::Refused(refusal) => {
+                table::refused(refusal);
+                self.with_refused(first, end)
+            }
+        }
+    }
+
+    pub fn print_totals(self, put: u16) {
+        let frames = self.totals;
+        let readers = self.readers;
+        let broken = self.broken;
+        let out = readers.out;
+        totals::print_frames(frames);
+        totals::print_blocks(put, readers.recorder.blocks, readers.unaltered);
+        totals::print_promised(ledger::as_promised(broken, out, put), put);
+    }
+}
+
+// The frame goes through the beam. Answers how many bytes of it arrive: none of one that is lost.
+fn through_beam(count: u16, frame: &mut [u8]) -> usize
+    requires { ⌜ frameSize ≤ length (now frame) ⌝ }
+{
+    match beam::fate_of(beam::shake_at(count)) {
+        Fate::Arrives => sizes::FRAME_SIZE,
+        Fate::Damaged => {
+            beam::damage(count, frame);
+            beam::arriving(count)
+        }
+        Fate::Lost => 0,
+    }
+}
+
+// What the receiver makes of the bytes that arrive.
+fn receive(
+    before: FarEnd,
+    first: u16,
+    end: u16,
+    arrived: &[u8],
+    hold: &mut [u8],
+    list: &mut [u8],
+) -> FarEnd {
+    if arrived.len() == 0 {
+        table::lost();
+        return before.with_lost(first, end);
+    }
+    let receiver = before.receiver;
+    let answer = receiving::receive(TAPS, arrived, receiver, hold, list);
+    before.with_answer(answer, first, end, list)
+}
+
+// A frame that carries parts of the blocks from `first` up to the one before `end` goes through the beam, and what is left of it is received.
+pub fn arrive(
+    before: FarEnd,
+    first: u16,
+    end: u16,
+    count: u16,
+    frame: &mut [u8],
+    hold: &mut [u8],
+    list: &mut [u8],
+) -> FarEnd
+    requires { ⌜ frameSize ≤ length (now frame) ⌝ }
+{
+    let length = through_beam(count, frame);
+    receive(
+        before,
+        first,
+        end,
+        demo_report::front(frame, length),
+        hold,
+        list,
+    )
+}

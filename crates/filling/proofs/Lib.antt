@@ -1,4 +1,0 @@
-pub mod Front
-pub mod Taking
-pub mod Round
-pub mod Freeing

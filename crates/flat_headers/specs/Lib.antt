@@ -1,2 +1,0 @@
-pub mod Headers
-pub mod Messages

@@ -1,3 +1,0 @@
-// A header as the vectors hold it.
-pub mod fields;
-mod messages;

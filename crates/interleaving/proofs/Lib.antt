@@ -1,2 +1,0 @@
-pub mod Interleaved
-mod Rows
