@@ -2,15 +2,14 @@
 #include "inputs.h"
 #include "taqwelim.h"
 
-static uint8_t queues[CALLS][TAQWELIM_QUEUE_SIZE], packet[PACKET], frame[TAQWELIM_FRAME_SIZE], hold[TAQWELIM_HOLD_SIZE], list[TAQWELIM_LIST_LEAST];
+static uint8_t queues[CALLS][TAQWELIM_QUEUE_SIZE], packet[PACKET], frame[TAQWELIM_FRAME_SIZE], hold[TAQWELIM_HOLD_SIZE], list[TAQWELIM_LIST_MIN];
 static const struct given *given;
 static taqwelim_sender sender; /* of each queue, before the call */
 static uint32_t taps;
 
 static void next_frame(const char *name, int k)
 {
-    taqwelim_fields fields = {0};
-    fields.message.opcode = TAQWELIM_ABSENT;
+    taqwelim_fields fields = TAQWELIM_FIELDS_WITHOUT_MESSAGE;
     must(taqwelim_next_frame(taps, fields, sender, queues[k], sizeof queues[k], frame, sizeof frame).refusal, name);
 }
 
@@ -18,6 +17,8 @@ static void call(const char *name, int k)
 {
     if (begins(name, "next"))
         next_frame(name, k);
+    else if (begins(name, "waiting"))
+        must(taqwelim_waiting(queues[k], sizeof queues[k], sender).refusal, name);
     else if (begins(name, "put"))
         must(taqwelim_put(queues[k], sizeof queues[k], sender, packet, given->put).refusal, name);
     else

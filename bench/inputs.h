@@ -50,6 +50,8 @@ static const struct given {
     {"put_byte", fill_samples, 0, 0, {0}, 1},
     {"put_ones", fill_samples, 0, ONES, {0}, 1},
     {"put_ones_parted", fill_samples, 31000, ONES, {0}, 1},
+    {"waiting_one", fill_samples, 0, 0, {PACKET, 0}, 0},
+    {"waiting_ones", fill_samples, 0, ONES, {0}, 0},
     {"next_one", fill_samples, 0, 0, {PACKET, 0}, 0},
     {"next_full", fill_samples, 0, 0, {9000, 9000, 9000, 5760, 0}, 0},
     {"next_one_parted", fill_samples, 31000, 0, {PACKET, 0}, 0},

@@ -1,8 +1,10 @@
 /* Taqwelim: packets through the frames of a laser link, for C and C++.
  *
- * The library is proved: every call here is one call of a proved library, does the same for all inputs, and has a
- * contract that says so (docs/CONTRACTS.md). Link with libtaqwelim.a, which `rt staticlib taqwelim` writes (x86-64
- * Linux). It allocates nothing, keeps nothing between calls, and needs memcpy and memset of the C library only.
+ * The library is proved: every call here is one call of a proved library, and has a contract that says what it does
+ * for all inputs (docs/CONTRACTS.md). It allocates nothing, keeps nothing between calls, and needs memcpy and memset
+ * of the C library only. `rt staticlib taqwelim` writes it, for x86-64 Linux:
+ *
+ *     cc -std=c99 -Iinclude yours.c target/staticlib/libtaqwelim.a
  *
  * How to use it
  *   A state is a small struct, given by value and handed back in the answer. Packets, frames and lists are bytes that
@@ -10,8 +12,7 @@
  *
  *     uint8_t queue[TAQWELIM_QUEUE_SIZE], frame[TAQWELIM_FRAME_SIZE];
  *     taqwelim_sender sender = taqwelim_fresh_sender();
- *     taqwelim_fields fields = {0};
- *     fields.message.opcode = TAQWELIM_ABSENT;
+ *     taqwelim_fields fields = TAQWELIM_FIELDS_WITHOUT_MESSAGE;
  *
  *     taqwelim_put_answer put = taqwelim_put(queue, sizeof queue, sender, packet, packet_length);
  *     sender = put.sender;
@@ -19,72 +20,92 @@
  *                                                     frame, sizeof frame);
  *     sender = next.sender;
  *
+ *   examples/session.c is a whole program with both ends, and examples/session.cpp is the same in C++.
+ *
  * Refusals
  *   Every answer has a refusal's number, 0 for none. A refused call changes no byte that you lent, and hands back the
  *   state that you gave; every other number of its answer is 0. Where several numbers apply, the lowest is given. Each
- *   call below says which numbers it may give; it gives no other.
+ *   call below says which numbers it may give, and when; it gives no other.
  *
  * What you owe
  *   A pointer with a length above 0 points to that many bytes, which nobody else reads or writes during the call; bytes
  *   that a call may write (`uint8_t *`) overlap no other bytes of the same call. A null pointer is allowed where the
- *   length is 0. That is all: no number, state or byte that you give makes a call undefined. Calls on bytes that do not
- *   overlap may run at the same time. */
+ *   length is 0. The stack has room for the call (TAQWELIM_STACK_.., below). That is all: no number, state or byte that
+ *   you give makes a call undefined. Calls on bytes that do not overlap may run at the same time. */
 #ifndef TAQWELIM_H
 #define TAQWELIM_H
 
 #include <stddef.h>
 #include <stdint.h>
 
-#ifdef __cplusplus
-extern "C" {
-#endif
+/* ---- the library's version, which stands here alone; the text is "MAJOR.MINOR.PATCH" */
+#define TAQWELIM_VERSION_MAJOR 0
+#define TAQWELIM_VERSION_MINOR 1
+#define TAQWELIM_VERSION_PATCH 0
+#define TAQWELIM_VERSION TAQWELIM_VERSION_TEXT(TAQWELIM_VERSION_MAJOR, TAQWELIM_VERSION_MINOR, TAQWELIM_VERSION_PATCH)
+#define TAQWELIM_VERSION_TEXT(major, minor, patch) TAQWELIM_VERSION_TEXT_OF(major, minor, patch)
+#define TAQWELIM_VERSION_TEXT_OF(major, minor, patch) #major "." #minor "." #patch
 
-/* ---- sizes, in bytes */
-#define TAQWELIM_FRAME_SIZE 2081   /* a frame on the wire */
-#define TAQWELIM_HEADER_SIZE 16    /* a bare header */
-#define TAQWELIM_PACKET_MOST 9000  /* the longest packet; the shortest is 1 */
-#define TAQWELIM_QUEUE_SIZE 32768  /* the queue, exactly */
-#define TAQWELIM_HOLD_SIZE 9000    /* the hold, exactly */
-#define TAQWELIM_LIST_LEAST 10907  /* the list, at least */
+/* ---- sizes, in bytes; MIN and MAX are bounds, a SIZE is exact */
+#define TAQWELIM_PACKET_MIN 1
+#define TAQWELIM_PACKET_MAX 9000
+#define TAQWELIM_FRAME_SIZE 2081  /* a frame on the wire; what next_frame writes it to may be longer */
+#define TAQWELIM_HEADER_SIZE 16   /* a bare header */
+#define TAQWELIM_QUEUE_SIZE 32768 /* what is lent for the packets that wait */
+#define TAQWELIM_HOLD_SIZE 9000   /* what is lent for the begun part of a packet */
+#define TAQWELIM_LIST_MIN 10907   /* what is lent for the packets received: a frame never gives more */
+
+/* ---- stack, in bytes: the most that a call takes of it, with its arguments and its answer. tests/run measures every
+ *      call that it makes, and fails where one takes more. What a dynamic linker takes that binds memcpy at its first
+ *      call is not in it. */
+#define TAQWELIM_STACK_NEXT_FRAME 10240
+#define TAQWELIM_STACK_RECEIVE 10240
+#define TAQWELIM_STACK_OTHERS 512 /* every other call */
+#define TAQWELIM_STACK_MAX 10240  /* every call */
 
 /* ---- taps: bit i is tap i; below 2^25, with tap 0 set */
 #define TAQWELIM_TAPS_0_AND_3 UINT32_C(9)
 
-/* ---- a refusal's number */
+/* ---- a refusal's number, and when it is given */
 enum taqwelim_refusal {
     TAQWELIM_NOT_REFUSED = 0,
-    TAQWELIM_TAPS = 1,          /* taps at or above 2^25, or tap 0 clear */
-    TAQWELIM_LENGTH = 2,        /* a frame, a bare header or a lent buffer of the wrong length */
-    TAQWELIM_STATE = 3,         /* the queue is not whole with this state, or a receiver's state is none */
-    TAQWELIM_PACKET = 4,        /* a packet of 0 or above 9,000 bytes */
-    TAQWELIM_FULL = 5,          /* no room in the queue: used + 2 + length is above 32,768 */
-    TAQWELIM_FIELD = 6,         /* a field to send is too large for its bits or against its rule */
-    TAQWELIM_PREAMBLE = 7,      /* the preamble differs */
-    TAQWELIM_HEADER_CODE = 8,   /* the coded header is no codeword */
-    TAQWELIM_HEADER_CRC = 9,    /* the CRC-16 differs */
-    TAQWELIM_RESERVED_BIT = 10, /* a reserved bit is 0 */
-    TAQWELIM_FIELD_RULE = 11,   /* a received field is against its rule */
-    TAQWELIM_PAYLOAD_CODE = 12, /* one of the eight payload words is no codeword */
-    TAQWELIM_PAYLOAD_CRC = 13,  /* the CRC-32 differs */
-    TAQWELIM_PACKING = 14,      /* a DATA area against the packing rules */
-    TAQWELIM_TOO_LONG = 15,     /* a held part and the record that continues it pass a packet's length */
-    TAQWELIM_LIST_ENTRY = 16    /* a list position past its end, or an entry that is none */
+    TAQWELIM_REFUSED_TAPS = 1,          /* taps at or above 2^25, or tap 0 clear */
+    TAQWELIM_REFUSED_LENGTH = 2,        /* a frame, a bare header or a lent buffer of the wrong length */
+    TAQWELIM_REFUSED_STATE = 3,         /* the queue is not whole with this state, or these are no receiver's numbers */
+    TAQWELIM_REFUSED_PACKET = 4,        /* a packet of 0 or above 9,000 bytes */
+    TAQWELIM_REFUSED_FULL = 5,          /* no room in the queue: used + 2 + length is above 32,768 */
+    TAQWELIM_REFUSED_FIELD = 6,         /* a field to send is too large for its bits or against its rule */
+    TAQWELIM_REFUSED_PREAMBLE = 7,      /* the preamble differs */
+    TAQWELIM_REFUSED_HEADER_CODE = 8,   /* the coded header is no codeword */
+    TAQWELIM_REFUSED_HEADER_CRC = 9,    /* the CRC-16 differs */
+    TAQWELIM_REFUSED_RESERVED_BIT = 10, /* a reserved bit is 0 */
+    TAQWELIM_REFUSED_FIELD_RULE = 11,   /* a received field is against its rule */
+    TAQWELIM_REFUSED_PAYLOAD_CODE = 12, /* one of the eight payload words is no codeword */
+    TAQWELIM_REFUSED_PAYLOAD_CRC = 13,  /* the CRC-32 differs */
+    TAQWELIM_REFUSED_PACKING = 14,      /* a DATA area against the packing rules */
+    TAQWELIM_REFUSED_TOO_LONG = 15,     /* a held part and the record that continues it pass a packet's length */
+    TAQWELIM_REFUSED_LIST_ENTRY = 16    /* a position past the list's end, or no entry stands there */
 };
 
-/* ---- the kind of a frame */
-enum taqwelim_kind { TAQWELIM_IDLE = 0, TAQWELIM_DATA = 1, TAQWELIM_TYPE2 = 2, TAQWELIM_TYPE3 = 3 };
+/* ---- the kind of a frame; of one that is not DATA, receive gives the header alone */
+enum taqwelim_kind {
+    TAQWELIM_KIND_IDLE = 0,
+    TAQWELIM_KIND_DATA = 1,
+    TAQWELIM_KIND_TYPE2 = 2,
+    TAQWELIM_KIND_TYPE3 = 3
+};
 
 /* ---- the opcodes of the fast channel, each with the numbers that its message has (first, second, third) and their
  *      greatest values; 7 to 14 are reserved, and have none */
 enum taqwelim_opcode {
-    TAQWELIM_CRC_ERRORS = 0,       /* errors 65535 */
-    TAQWELIM_RECEIVED_POWER = 1,   /* power 16383, lock 1 */
-    TAQWELIM_POWER_STATISTICS = 2, /* mean 255, deviation 255 */
-    TAQWELIM_SYNC_LOSSES = 3,      /* losses 16383, lock 1 */
-    TAQWELIM_POWER_RANGE = 4,      /* least 255, greatest 255 */
-    TAQWELIM_VERSION = 5,          /* major 31, minor 31, patch 63 */
-    TAQWELIM_CORRECTED_FRAMES = 6, /* frames 65535 */
-    TAQWELIM_ABSENT = 15           /* none */
+    TAQWELIM_OPCODE_CRC_ERRORS = 0,       /* errors 65535 */
+    TAQWELIM_OPCODE_RECEIVED_POWER = 1,   /* power 16383, lock 1 */
+    TAQWELIM_OPCODE_POWER_STATISTICS = 2, /* mean 255, deviation 255 */
+    TAQWELIM_OPCODE_SYNC_LOSSES = 3,      /* losses 16383, lock 1 */
+    TAQWELIM_OPCODE_POWER_RANGE = 4,      /* least 255, greatest 255 */
+    TAQWELIM_OPCODE_VERSION = 5,          /* major 31, minor 31, patch 63 */
+    TAQWELIM_OPCODE_CORRECTED_FRAMES = 6, /* frames 65535 */
+    TAQWELIM_OPCODE_ABSENT = 15           /* none */
 };
 
 /* A message of the fast channel. A number that the message does not have is 0; otherwise it is refused (6). */
@@ -106,6 +127,9 @@ typedef struct taqwelim_fields {
     taqwelim_message message;
 } taqwelim_fields;
 
+/* Fields to begin with: no message, and zeros. */
+#define TAQWELIM_FIELDS_WITHOUT_MESSAGE {0, 0, 0, 0, 0, 0, {TAQWELIM_OPCODE_ABSENT, 0, 0, 0}}
+
 /* A whole header: TXFN and the kind stand beside the fields. */
 typedef struct taqwelim_header {
     taqwelim_fields fields;
@@ -114,7 +138,9 @@ typedef struct taqwelim_header {
 } taqwelim_header;
 
 /* The sender's state. The queue is a ring: behind its last byte stands its first. Byte i of the waiting packets stands
- * at queue[(start + i) % 32768], for i below used. A state saved before there was a start has the start 0. */
+ * at queue[(start + i) % 32768], for i below used. With this state the queue is whole where both numbers are in their
+ * bounds and these bytes are packets with their marks, as put and next_frame leave them; otherwise it is refused
+ * (3). */
 typedef struct taqwelim_sender {
     size_t start;  /* where the waiting packets begin, below 32,768 */
     size_t used;   /* how many bytes they use, with their marks; at most 32,768 */
@@ -129,10 +155,31 @@ typedef struct taqwelim_receiver {
     uint8_t expects; /* 0 or 1 */
 } taqwelim_receiver;
 
+/* ---- an answer with a refusal is not to be dropped, and no call throws: said to compilers that know how */
+#if (defined(__cplusplus) && __cplusplus >= 201703L) || (defined(__STDC_VERSION__) && __STDC_VERSION__ >= 202311L)
+#define TAQWELIM_NO_DISCARD [[nodiscard]]
+#elif defined(__GNUC__)
+#define TAQWELIM_NO_DISCARD __attribute__((warn_unused_result))
+#else
+#define TAQWELIM_NO_DISCARD
+#endif
+
+#if !defined(__cplusplus)
+#define TAQWELIM_NO_THROW
+#elif __cplusplus >= 201103L
+#define TAQWELIM_NO_THROW noexcept
+#else
+#define TAQWELIM_NO_THROW throw()
+#endif
+
+#ifdef __cplusplus
+extern "C" {
+#endif
+
 /* ---- sending */
 
 /* The state to begin with: nothing waits, and the first frame is frame 0. All zeros. */
-taqwelim_sender taqwelim_fresh_sender(void);
+taqwelim_sender taqwelim_fresh_sender(void) TAQWELIM_NO_THROW;
 
 typedef struct taqwelim_put_answer {
     taqwelim_sender sender; /* with the packet's 2 + length bytes used */
@@ -141,29 +188,43 @@ typedef struct taqwelim_put_answer {
 
 /* Puts a packet of 1 to 9,000 bytes behind those that wait.
  * Writes a mark of two bytes and the packet behind the used bytes, round the ring, and touches nothing else of it.
- * Refuses: 2 queue_length is not 32,768; 3 start is 32,768 or more, or the queue is not whole; 4 the packet's length;
+ * Refuses: 2 queue_length is not 32,768; 3 the queue is not whole with this state; 4 packet_length is 0 or above 9,000;
  * 5 no room, which goes by used alone. */
+TAQWELIM_NO_DISCARD
 taqwelim_put_answer taqwelim_put(uint8_t *queue, size_t queue_length, taqwelim_sender sender, const uint8_t *packet,
-                                 size_t packet_length);
+                                 size_t packet_length) TAQWELIM_NO_THROW;
+
+typedef struct taqwelim_waiting_answer {
+    size_t packets; /* packets that wait; one that is begun counts */
+    size_t bytes;   /* bytes of them that are still to be sent, without their marks */
+    uint8_t refusal;
+} taqwelim_waiting_answer;
+
+/* Tells how much waits in the queue. Changes nothing.
+ * Refuses: 2 queue_length is not 32,768; 3 the queue is not whole with this state. */
+TAQWELIM_NO_DISCARD
+taqwelim_waiting_answer taqwelim_waiting(const uint8_t *queue, size_t queue_length,
+                                         taqwelim_sender sender) TAQWELIM_NO_THROW;
 
 typedef struct taqwelim_next_answer {
     taqwelim_sender sender; /* what still waits, and the TXFN after this frame's */
-    uint8_t kind;           /* TAQWELIM_IDLE where nothing waited, otherwise TAQWELIM_DATA */
+    uint8_t kind;           /* TAQWELIM_KIND_IDLE where nothing waited, otherwise TAQWELIM_KIND_DATA */
     uint8_t refusal;
 } taqwelim_next_answer;
 
 /* Builds the next frame at the front of out: the fields given, the sender's TXFN, and as much of the waiting packets as
  * fits. What still waits stays where it is, and the start moves on to it; of the queue at most two bytes are written,
  * the new mark of a packet that was cut. All its other bytes, and those of out past the 2,081, keep their values.
- * Refuses: 1 the taps; 2 queue_length is not 32,768, or out_length is under 2,081; 3 as for put; 6 a field, for an IDLE
- * frame too. */
+ * Refuses: 1 the taps; 2 queue_length is not 32,768, or out_length is under 2,081; 3 the queue is not whole with this
+ * state; 6 a field, for an IDLE frame too. */
+TAQWELIM_NO_DISCARD
 taqwelim_next_answer taqwelim_next_frame(uint32_t taps, taqwelim_fields fields, taqwelim_sender sender, uint8_t *queue,
-                                         size_t queue_length, uint8_t *out, size_t out_length);
+                                         size_t queue_length, uint8_t *out, size_t out_length) TAQWELIM_NO_THROW;
 
 /* ---- receiving */
 
 /* The state to begin with: no number is expected, and nothing is held. All zeros. */
-taqwelim_receiver taqwelim_fresh_receiver(void);
+taqwelim_receiver taqwelim_fresh_receiver(void) TAQWELIM_NO_THROW;
 
 typedef struct taqwelim_receive_answer {
     taqwelim_header header;     /* the frame's */
@@ -178,11 +239,12 @@ typedef struct taqwelim_receive_answer {
  * by taqwelim_entry over exactly `listed` bytes; the begun part of a packet is kept at the front of the hold. All other
  * bytes of both keep their values. A refused frame leaves everything as it was, the number expected too: it will count
  * as missing.
- * Refuses: 1 the taps; 2 frame_length is not 2,081, hold_length not 9,000, or list_length under 10,907; 3 the state;
- * 7 to 15 what the frame holds. */
+ * Refuses: 1 the taps; 2 frame_length is not 2,081, hold_length not 9,000, or list_length under 10,907; 3 the numbers
+ * of receiver are no state; 7 to 15 what the frame holds. */
+TAQWELIM_NO_DISCARD
 taqwelim_receive_answer taqwelim_receive(uint32_t taps, const uint8_t *frame, size_t frame_length,
                                          taqwelim_receiver receiver, uint8_t *hold, size_t hold_length, uint8_t *list,
-                                         size_t list_length);
+                                         size_t list_length) TAQWELIM_NO_THROW;
 
 typedef struct taqwelim_entry_answer {
     size_t start;  /* the packet is list[start] to list[start + length - 1], */
@@ -192,16 +254,17 @@ typedef struct taqwelim_entry_answer {
     uint8_t refusal;
 } taqwelim_entry_answer;
 
-/* What stands at a position of a list, 0 being the first. list_length is `listed` of the answer that wrote it. Where the
- * position is the list's end, found is 0 and refusal is 0. Changes nothing.
- * Refuses: 16 the position is past the end, or its entry is none.
+/* What stands at a position of a list, 0 being the first. list_length is `listed` of the answer that wrote it. Where
+ * the position is the list's end, found is 0 and refusal is 0. Changes nothing.
+ * Refuses: 16 the position is past the end, or no entry stands there.
  *
  *     taqwelim_entry_answer entry = taqwelim_entry(list, listed, 0);
  *     while (entry.found) {
  *         use(list + entry.start, entry.length);
  *         entry = taqwelim_entry(list, listed, entry.next);
  *     } */
-taqwelim_entry_answer taqwelim_entry(const uint8_t *list, size_t list_length, size_t position);
+TAQWELIM_NO_DISCARD
+taqwelim_entry_answer taqwelim_entry(const uint8_t *list, size_t list_length, size_t position) TAQWELIM_NO_THROW;
 
 typedef struct taqwelim_place {
     size_t start;
@@ -210,13 +273,18 @@ typedef struct taqwelim_place {
 
 /* The place of the packet at a position, alone: start and length of taqwelim_entry, both 0 at an end or a refusal.
  * Changes nothing, and gives no number. */
-taqwelim_place taqwelim_packet(const uint8_t *list, size_t list_length, size_t position);
+taqwelim_place taqwelim_packet(const uint8_t *list, size_t list_length, size_t position) TAQWELIM_NO_THROW;
 
 /* ---- bare headers, and the level */
 
-/* Codes a header, with any TXFN and of any kind, into exactly 16 bytes. Gives the refusal's number, 0 for none.
+typedef struct taqwelim_code_answer {
+    uint8_t refusal;
+} taqwelim_code_answer;
+
+/* Codes a header, with any TXFN and of any kind, into exactly 16 bytes.
  * Refuses: 2 out_length is not 16; 6 a field, or a kind above 3. */
-uint8_t taqwelim_code_header(taqwelim_header header, uint8_t *out, size_t out_length);
+TAQWELIM_NO_DISCARD
+taqwelim_code_answer taqwelim_code_header(taqwelim_header header, uint8_t *out, size_t out_length) TAQWELIM_NO_THROW;
 
 typedef struct taqwelim_read_answer {
     taqwelim_header header;
@@ -225,13 +293,17 @@ typedef struct taqwelim_read_answer {
 
 /* Reads a header from exactly 16 bytes. Changes nothing.
  * Refuses: 2 length is not 16; 9 the CRC-16; 10 a reserved bit; 11 a field. */
-taqwelim_read_answer taqwelim_read_header(const uint8_t *bytes, size_t length);
+TAQWELIM_NO_DISCARD
+taqwelim_read_answer taqwelim_read_header(const uint8_t *bytes, size_t length) TAQWELIM_NO_THROW;
 
 /* The level that a code stands for, in hundred-thousandths of a dBm/m2: -25,086 times the code. Refuses nothing. */
-int32_t taqwelim_level(uint8_t code);
+int32_t taqwelim_level(uint8_t code) TAQWELIM_NO_THROW;
 
 #ifdef __cplusplus
 }
 #endif
+
+#undef TAQWELIM_NO_DISCARD
+#undef TAQWELIM_NO_THROW
 
 #endif

@@ -41,7 +41,7 @@ def some_of(start, end):
 
 
 # ---------------------------------------------------------------------------------------------------------------------
-# The groups: codes and headers, whole frames, the sender, the receiver.
+# The groups: codes and headers, whole frames, the sender, the receiver, and what waits.
 
 
 def code_records():
@@ -116,6 +116,17 @@ def sender_records():
     yield from wrong_bytes(numbers, lambda: session.queue_in_full(session.queue), [*range(4), *some_of(4, 1000)])
 
 
+def waiting_records():
+    """Of what is counted, and of a refusal: the number, the packets and the bytes."""
+    numbers = Numbers(36)
+    session = Session(numbers.next(), 32767)
+    yield session.begun()
+    yield session.put(300, numbers.next())
+    for make in [partial(session.count, 1, 300), partial(session.count, 0, 0, 2, lent=5)]:
+        yield from wrong_bytes(numbers, make, range(20, 37))
+        yield from wrong_length(make)
+
+
 def receiver_records():
     """Of calls that are accepted, and of such as are refused; of a packet, the list's end and a position that is none."""
     numbers = Numbers(32)
@@ -141,4 +152,4 @@ def receiver_records():
     yield from wrong_bytes(numbers, lambda: arrivals.change_list(changed(arrivals.list, 5, 1)), range(8))
 
 
-GROUPS = [code_records, header_records, frame_records, sender_records, receiver_records]
+GROUPS = [code_records, header_records, frame_records, sender_records, receiver_records, waiting_records]

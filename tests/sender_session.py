@@ -8,6 +8,8 @@
                        digests of the queue and of what was lent for the frame, the frame or nothing; a frame that was
                        sent is then at hand
     20  queue in full  seed 4, bytes: the queue is these, and behind them it is as from the seed
+    33  waiting        the state, the queue's length 2; the refusal's number 1, 0 for none, how many packets wait 8, how
+                       many bytes of them 8
 
 A state is the start 8, the used bytes 8 and the number of the next frame 2. An answer is the refusal's number, 0 for
 none, the type of the frame that was sent, and the state after the call. Bytes from a seed are those of Numbers. The
@@ -83,6 +85,14 @@ class Session:
             self.sender = after
         sizes = lent.to_bytes(2, "big") + length.to_bytes(2, "big") + seed.to_bytes(4, "big")
         return record(18, state(given), sizes, bytes([found, 0]), state(after), digest(self.buffer))
+
+    def count(self, packets, length, number=0, given=None, lent=packing.QUEUE):
+        """How many packets wait and how many bytes of them, as they are meant; 0 where the call is refused."""
+        given = self.sender if given is None else given
+        found = sender.count_waiting(self.buffer[:lent], given)
+        assert found == (number, packets, length), (found, number, packets, length, given)
+        answer = bytes([number]) + packets.to_bytes(8, "big") + length.to_bytes(8, "big")
+        return record(33, state(given), lent.to_bytes(2, "big"), answer)
 
     def next_frame(self, taps, header, number=0, given=None, lent=packing.QUEUE, room=frames.FRAME, full=False):
         given = self.sender if given is None else given

@@ -21,13 +21,16 @@ import planted_vectors
 import receiver_vectors
 import ring_vectors
 import sender_vectors
+import waiting_vectors
 
 VECTORS = Path(__file__).resolve().parent.parent / "crates" / "trials" / "stdin"
 
 
 def vectors():
-    files = [code_vectors, header_vectors, frame_vectors, sender_vectors, ring_vectors, receiver_vectors, apply_vectors]
-    records = [one for file in [*files, planted_vectors] for group in file.GROUPS for one in group()]
+    sending = [sender_vectors, ring_vectors]
+    receiving = [receiver_vectors, apply_vectors]
+    files = [code_vectors, header_vectors, frame_vectors, *sending, *receiving, waiting_vectors, planted_vectors]
+    records = [one for file in files for group in file.GROUPS for one in group()]
     return records, len(records).to_bytes(4, "big") + b"".join(records)
 
 

@@ -114,7 +114,7 @@ static int same_header(taqwelim_header a, taqwelim_header b)
 
 uint8_t both_put(size_t queue_length, taqwelim_sender *sender, size_t packet_length)
 {
-    taqwelim_put_answer a = taqwelim_put(to_library(&queue, queue_length), queue_length, *sender, to_library(&packet, packet_length), packet_length);
+    taqwelim_put_answer a = library_put(to_library(&queue, queue_length), queue_length, *sender, to_library(&packet, packet_length), packet_length);
     taqwelim_put_answer b = model_put(model_bytes_of(&queue), queue_length, *sender, model_bytes_of(&packet), packet_length);
     expect(a.refusal == b.refusal && same_sender(a.sender, b.sender), "put's answer");
     compare_bytes(&queue, "the queue after put");
@@ -123,10 +123,26 @@ uint8_t both_put(size_t queue_length, taqwelim_sender *sender, size_t packet_len
     return ended(a.refusal);
 }
 
+uint8_t both_waiting(size_t queue_length, taqwelim_sender sender, taqwelim_waiting_answer *answer)
+{
+    taqwelim_waiting_answer a = library_waiting(to_library(&queue, queue_length), queue_length, sender);
+    taqwelim_waiting_answer b = model_waiting(model_bytes_of(&queue), queue_length, sender);
+    expect(a.refusal == b.refusal && a.packets == b.packets && a.bytes == b.bytes, "waiting's answer");
+    compare_bytes(&queue, "the queue after waiting");
+    *answer = a;
+    return ended(a.refusal);
+}
+
+void expect_waiting(taqwelim_sender sender, size_t packets, size_t bytes)
+{
+    taqwelim_waiting_answer answer;
+    expect(both_waiting(TAQWELIM_QUEUE_SIZE, sender, &answer) == 0 && answer.packets == packets && answer.bytes == bytes, "so many packets and bytes wait");
+}
+
 uint8_t both_next(uint32_t taps, taqwelim_fields fields, taqwelim_sender *sender, size_t queue_length, size_t out_length)
 {
     taqwelim_next_answer a =
-        taqwelim_next_frame(taps, fields, *sender, to_library(&queue, queue_length), queue_length, to_library(&out, out_length), out_length);
+        library_next_frame(taps, fields, *sender, to_library(&queue, queue_length), queue_length, to_library(&out, out_length), out_length);
     taqwelim_next_answer b = model_next_frame(taps, fields, *sender, model_bytes_of(&queue), queue_length, model_bytes_of(&out), out_length);
     expect(a.refusal == b.refusal && a.kind == b.kind && same_sender(a.sender, b.sender), "next_frame's answer");
     compare_bytes(&queue, "the queue after next_frame");
@@ -137,7 +153,7 @@ uint8_t both_next(uint32_t taps, taqwelim_fields fields, taqwelim_sender *sender
 
 uint8_t both_receive(uint32_t taps, size_t frame_length, taqwelim_receiver *receiver, size_t hold_length, size_t list_length, taqwelim_receive_answer *answer)
 {
-    taqwelim_receive_answer a = taqwelim_receive(taps, to_library(&frame, frame_length), frame_length, *receiver, to_library(&hold, hold_length), hold_length,
+    taqwelim_receive_answer a = library_receive(taps, to_library(&frame, frame_length), frame_length, *receiver, to_library(&hold, hold_length), hold_length,
                                                  to_library(&list, list_length), list_length);
     taqwelim_receive_answer b =
         model_receive(taps, model_bytes_of(&frame), frame_length, *receiver, model_bytes_of(&hold), hold_length, model_bytes_of(&list), list_length);
@@ -154,9 +170,9 @@ uint8_t both_receive(uint32_t taps, size_t frame_length, taqwelim_receiver *rece
 
 uint8_t both_entry(size_t list_length, size_t position, taqwelim_entry_answer *answer)
 {
-    taqwelim_entry_answer a = taqwelim_entry(to_library(&list, list_length), list_length, position);
+    taqwelim_entry_answer a = library_entry(to_library(&list, list_length), list_length, position);
     taqwelim_entry_answer b = model_entry(model_bytes_of(&list), list_length, position);
-    taqwelim_place place = taqwelim_packet(to_library(&list, list_length), list_length, position);
+    taqwelim_place place = library_packet(to_library(&list, list_length), list_length, position);
     expect(a.refusal == b.refusal && a.found == b.found && a.start == b.start && a.length == b.length && a.next == b.next, "entry's answer");
     expect(place.start == b.start && place.length == b.length, "packet's place");
     compare_bytes(&list, "the list after entry and packet");
@@ -166,16 +182,16 @@ uint8_t both_entry(size_t list_length, size_t position, taqwelim_entry_answer *a
 
 uint8_t both_code(taqwelim_header header, size_t length)
 {
-    uint8_t a = taqwelim_code_header(header, to_library(&header_bytes, length), length);
-    uint8_t b = model_code_header(header, model_bytes_of(&header_bytes), length);
-    expect(a == b, "code_header's answer");
+    taqwelim_code_answer a = library_code_header(header, to_library(&header_bytes, length), length);
+    taqwelim_code_answer b = model_code_header(header, model_bytes_of(&header_bytes), length);
+    expect(a.refusal == b.refusal, "code_header's answer");
     compare_bytes(&header_bytes, "the bytes of code_header");
-    return ended(a);
+    return ended(a.refusal);
 }
 
 uint8_t both_read(size_t length, taqwelim_header *header)
 {
-    taqwelim_read_answer a = taqwelim_read_header(to_library(&header_bytes, length), length);
+    taqwelim_read_answer a = library_read_header(to_library(&header_bytes, length), length);
     taqwelim_read_answer b = model_read_header(model_bytes_of(&header_bytes), length);
     expect(a.refusal == b.refusal, "read_header's refusal");
     expect(same_header(a.header, b.header), "read_header's header");

@@ -3,6 +3,7 @@
 #define BOTH_H
 
 #include "model.h"
+#include "stack.h"
 
 #define AROUND 64 /* bytes before and behind what is lent */
 #define ROOM 33000
@@ -37,6 +38,8 @@ size_t below(size_t bound);                                       /* 0 to bound 
 
 /* ---- the calls; a state is replaced by the answer's. Each gives the refusal's number. */
 uint8_t both_put(size_t queue_length, taqwelim_sender *sender, size_t packet_length);
+uint8_t both_waiting(size_t queue_length, taqwelim_sender sender, taqwelim_waiting_answer *answer);
+void expect_waiting(taqwelim_sender sender, size_t packets, size_t bytes);
 uint8_t both_next(uint32_t taps, taqwelim_fields fields, taqwelim_sender *sender, size_t queue_length, size_t out_length);
 uint8_t both_receive(uint32_t taps, size_t frame_length, taqwelim_receiver *receiver, size_t hold_length, size_t list_length, taqwelim_receive_answer *answer);
 uint8_t both_entry(size_t list_length, size_t position, taqwelim_entry_answer *answer);

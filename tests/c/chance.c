@@ -134,10 +134,9 @@ static void some_area(uint8_t *area)
 static void make_frame(uint32_t taps)
 {
     uint8_t header[16], area[AREA], data[DATA], bytes[TAQWELIM_FRAME_SIZE];
-    taqwelim_header h = {{0}, 0, 0};
-    h.fields.message.opcode = TAQWELIM_ABSENT;
+    taqwelim_header h = {TAQWELIM_FIELDS_WITHOUT_MESSAGE, 0, 0};
     h.txfn = below(6) ? receiver.expected : (uint16_t)(receiver.expected + below(4));
-    h.kind = (uint8_t)(below(4) ? TAQWELIM_DATA : below(4));
+    h.kind = (uint8_t)(below(4) ? TAQWELIM_KIND_DATA : below(4));
     model_header_bytes(h, header);
     if (below(12) == 0)
         header[below(14)] = (uint8_t)chance();
@@ -165,10 +164,10 @@ static void some_receive(void)
     if (below(30) == 0)
         receiver.expected = (uint16_t)chance();
     if (below(40) == 0)
-        receiver = taqwelim_fresh_receiver();
+        receiver = library_fresh_receiver();
     if (model_taps_allowed(taps) && below(20))
         make_frame(taps);
-    both_receive(taps, some_size(TAQWELIM_FRAME_SIZE), &receiver, some_size(TAQWELIM_HOLD_SIZE), some_size(TAQWELIM_LIST_LEAST), &answer);
+    both_receive(taps, some_size(TAQWELIM_FRAME_SIZE), &receiver, some_size(TAQWELIM_HOLD_SIZE), some_size(TAQWELIM_LIST_MIN), &answer);
     if (answer.refusal == 0 && below(4) == 0 && answer.listed > 0)
         change_a_byte(&list, answer.listed);
     size_t position = 0;
@@ -195,12 +194,14 @@ static void some_header(void)
 
 void try_chance(unsigned long rounds)
 {
-    sender = taqwelim_fresh_sender();
-    receiver = taqwelim_fresh_receiver();
+    sender = library_fresh_sender();
+    receiver = library_fresh_receiver();
     for (unsigned long i = 0; i < rounds; i++) {
         if (i % 500 == 0)
             fill_all();
+        taqwelim_waiting_answer waits;
         break_sender();
+        both_waiting(some_size(TAQWELIM_QUEUE_SIZE), sender, &waits);
         some_put();
         both_next(some_taps(), some_fields(), &sender, some_size(TAQWELIM_QUEUE_SIZE), some_size(TAQWELIM_FRAME_SIZE));
         some_receive();

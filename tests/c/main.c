@@ -14,6 +14,7 @@ static void say(const char *name)
 
 int main(int argc, char **argv)
 {
+    paint_stacks();
     try_numbers();
     say("numbers to try");
     try_refusals();
@@ -24,6 +25,7 @@ int main(int argc, char **argv)
     say("chance");
     try_ring(argc > 1 ? strtoul(argv[1], NULL, 10) : 100000);
     say("ring");
+    try_stacks();
     printf("calls that ended with each number, 0 to 16:");
     for (int number = 0; number <= 16; number++) {
         printf(" %lu", given[number]);

@@ -32,17 +32,19 @@ uint8_t model_open(uint32_t taps, const uint8_t *frame, uint8_t *header, uint8_t
 
 /* ---- parts of the calls (model_link.c) */
 void model_put_mark(uint8_t *bytes, unsigned mark);
+size_t model_count(const uint8_t *laid, size_t used);
 size_t model_fill(uint8_t *area, uint8_t *laid, size_t used);
 void model_write_round(uint8_t *queue, size_t start, const uint8_t *bytes, size_t length);
 
 /* ---- the calls (model_link.c) */
 taqwelim_put_answer model_put(uint8_t *queue, size_t queue_length, taqwelim_sender sender, const uint8_t *packet, size_t packet_length);
+taqwelim_waiting_answer model_waiting(const uint8_t *queue, size_t queue_length, taqwelim_sender sender);
 taqwelim_next_answer model_next_frame(uint32_t taps, taqwelim_fields fields, taqwelim_sender sender, uint8_t *queue, size_t queue_length, uint8_t *out,
                                       size_t out_length);
 taqwelim_receive_answer model_receive(uint32_t taps, const uint8_t *frame, size_t frame_length, taqwelim_receiver receiver, uint8_t *hold, size_t hold_length,
                                       uint8_t *list, size_t list_length);
 taqwelim_entry_answer model_entry(const uint8_t *list, size_t list_length, size_t position);
-uint8_t model_code_header(taqwelim_header header, uint8_t *out, size_t out_length);
+taqwelim_code_answer model_code_header(taqwelim_header header, uint8_t *out, size_t out_length);
 taqwelim_read_answer model_read_header(const uint8_t *bytes, size_t length);
 
 #endif

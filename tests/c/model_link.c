@@ -30,6 +30,15 @@ static int is_whole(const uint8_t *laid, size_t used)
     return 1;
 }
 
+/* How many packets these are; they are whole. */
+size_t model_count(const uint8_t *laid, size_t used)
+{
+    size_t packets = 0;
+    for (size_t at = 0; at < used; at += 2 + (mark_at(laid + at) & 0x7FFF))
+        packets++;
+    return packets;
+}
+
 /* Fills the area, and moves what remains to byte 0; how many bytes that is. */
 size_t model_fill(uint8_t *area, uint8_t *laid, size_t used)
 {
@@ -83,7 +92,7 @@ taqwelim_put_answer model_put(uint8_t *queue, size_t queue_length, taqwelim_send
         answer.refusal = 2;
     else if (!read_waiting(queue, sender, laid))
         answer.refusal = 3;
-    else if (packet_length < 1 || packet_length > TAQWELIM_PACKET_MOST)
+    else if (packet_length < 1 || packet_length > TAQWELIM_PACKET_MAX)
         answer.refusal = 4;
     else if (sender.used + 2 + packet_length > TAQWELIM_QUEUE_SIZE)
         answer.refusal = 5;
@@ -96,12 +105,27 @@ taqwelim_put_answer model_put(uint8_t *queue, size_t queue_length, taqwelim_send
     return answer;
 }
 
+taqwelim_waiting_answer model_waiting(const uint8_t *queue, size_t queue_length, taqwelim_sender sender)
+{
+    static uint8_t laid[TAQWELIM_QUEUE_SIZE];
+    taqwelim_waiting_answer answer = {0, 0, 0};
+    if (queue_length != TAQWELIM_QUEUE_SIZE)
+        answer.refusal = 2;
+    else if (!read_waiting(queue, sender, laid))
+        answer.refusal = 3;
+    if (answer.refusal)
+        return answer;
+    answer.packets = model_count(laid, sender.used);
+    answer.bytes = sender.used - 2 * answer.packets;
+    return answer;
+}
+
 taqwelim_next_answer model_next_frame(uint32_t taps, taqwelim_fields fields, taqwelim_sender sender, uint8_t *queue, size_t queue_length, uint8_t *out,
                                       size_t out_length)
 {
     static uint8_t laid[TAQWELIM_QUEUE_SIZE];
     taqwelim_next_answer answer = {sender, 0, 0};
-    taqwelim_header header = {fields, sender.next, TAQWELIM_IDLE};
+    taqwelim_header header = {fields, sender.next, TAQWELIM_KIND_IDLE};
     uint8_t area[AREA], data[DATA], bytes[16];
     if (!model_taps_allowed(taps))
         answer.refusal = 1;
@@ -114,7 +138,7 @@ taqwelim_next_answer model_next_frame(uint32_t taps, taqwelim_fields fields, taq
     if (answer.refusal)
         return answer;
     if (sender.used > 0)
-        header.kind = TAQWELIM_DATA;
+        header.kind = TAQWELIM_KIND_DATA;
     answer.sender.used = model_fill(area, laid, sender.used);
     answer.sender.start = (sender.start + sender.used - answer.sender.used) % TAQWELIM_QUEUE_SIZE;
     /* what remains is written where it stood: only the mark of a packet that was cut is new */
@@ -201,7 +225,7 @@ taqwelim_receive_answer model_receive(uint32_t taps, const uint8_t *frame, size_
     refused.receiver = receiver;
     if (!model_taps_allowed(taps))
         refused.refusal = 1;
-    else if (frame_length != TAQWELIM_FRAME_SIZE || hold_length != TAQWELIM_HOLD_SIZE || list_length < TAQWELIM_LIST_LEAST)
+    else if (frame_length != TAQWELIM_FRAME_SIZE || hold_length != TAQWELIM_HOLD_SIZE || list_length < TAQWELIM_LIST_MIN)
         refused.refusal = 2;
     else if (receiver.held > 8999 || receiver.expects > 1 || (receiver.expects == 0 && receiver.expected != 0))
         refused.refusal = 3;
@@ -214,7 +238,7 @@ taqwelim_receive_answer model_receive(uint32_t taps, const uint8_t *frame, size_
     answer.receiver.held = answer.missed ? 0 : receiver.held;
     answer.receiver.expects = 1;
     answer.receiver.expected = (uint16_t)(answer.header.txfn + 1);
-    if (answer.header.kind == TAQWELIM_DATA) {
+    if (answer.header.kind == TAQWELIM_KIND_DATA) {
         refused.refusal = area_refusal(area, answer.receiver.held);
         if (refused.refusal)
             return refused;
@@ -242,14 +266,16 @@ taqwelim_entry_answer model_entry(const uint8_t *list, size_t list_length, size_
     return answer;
 }
 
-uint8_t model_code_header(taqwelim_header header, uint8_t *out, size_t out_length)
+taqwelim_code_answer model_code_header(taqwelim_header header, uint8_t *out, size_t out_length)
 {
+    taqwelim_code_answer answer = {0};
     if (out_length != TAQWELIM_HEADER_SIZE)
-        return 2;
-    if (header.kind > 3 || !model_fields_fit(header.fields))
-        return 6;
-    model_header_bytes(header, out);
-    return 0;
+        answer.refusal = 2;
+    else if (header.kind > 3 || !model_fields_fit(header.fields))
+        answer.refusal = 6;
+    else
+        model_header_bytes(header, out);
+    return answer;
 }
 
 taqwelim_read_answer model_read_header(const uint8_t *bytes, size_t length)

@@ -8,8 +8,7 @@ static const uint32_t taps = TAQWELIM_TAPS_0_AND_3;
 
 static taqwelim_fields absent_fields(void)
 {
-    taqwelim_fields fields = {0};
-    fields.message.opcode = TAQWELIM_ABSENT;
+    taqwelim_fields fields = TAQWELIM_FIELDS_WITHOUT_MESSAGE;
     return fields;
 }
 
@@ -19,9 +18,9 @@ static void codes(void)
     expect(model_crc_16(&one, 1) == 0x1021 && model_crc_16(&one, 0) == 0, "CRC-16 of 01 and of nothing");
     expect(model_crc_32(&one, 1) == 0x04C11DB7 && model_crc_32(&one, 0) == 0, "CRC-32 of 01 and of nothing");
     expect(model_power(8) == 0x87 && model_power(9) == 0x89 && model_power(254) == 0xC3, "powers 8, 9 and 254");
-    expect(taqwelim_level(255) == -6396930 && taqwelim_level(0) == 0, "the level of codes 255 and 0");
+    expect(library_level(255) == -6396930 && library_level(0) == 0, "the level of codes 255 and 0");
     for (int code = 0; code < 256; code++)
-        expect(taqwelim_level((uint8_t)code) == -25086 * code, "a level");
+        expect(library_level((uint8_t)code) == -25086 * code, "a level");
 }
 
 /* The two headers of the paper: d0 to d13, and what is read back. */
@@ -29,11 +28,11 @@ static void headers(void)
 {
     static const uint8_t idle[14] = {0x01, 0, 0, 0, 0xF0, 0, 0, 0, 0, 0, 0xC0, 0x8F, 0xFF, 0xFF};
     static const uint8_t version[14] = {0x34, 0x12, 0xFF, 0xFF, 0xFD, 0x01, 0, 0, 0, 0, 0xFB, 0xB5, 0x42, 0x10};
-    taqwelim_header h = {absent_fields(), 1, TAQWELIM_IDLE}, back;
+    taqwelim_header h = {absent_fields(), 1, TAQWELIM_KIND_IDLE}, back;
     expect(both_code(h, 16) == 0 && memcmp(bytes_of(&header_bytes), idle, 14) == 0, "the paper's IDLE header");
     expect(both_read(16, &back) == 0 && back.txfn == 1 && back.fields.message.opcode == 15, "the IDLE header read back");
-    taqwelim_fields fields = {1, 0xFFFF, 1, 1, 59, 3, {TAQWELIM_VERSION, 2, 1, 2}};
-    taqwelim_header data = {fields, 0x1234, TAQWELIM_DATA};
+    taqwelim_fields fields = {1, 0xFFFF, 1, 1, 59, 3, {TAQWELIM_OPCODE_VERSION, 2, 1, 2}};
+    taqwelim_header data = {fields, 0x1234, TAQWELIM_KIND_DATA};
     expect(both_code(data, 16) == 0 && memcmp(bytes_of(&header_bytes), version, 14) == 0, "the paper's DATA header");
     expect(both_read(16, &back) == 0 && back.txfn == 0x1234 && back.fields.message.third == 2, "the DATA header read back");
 }
@@ -53,7 +52,7 @@ static void scrambler(void)
     static const uint32_t both[2] = {9, 3};
     static const uint8_t fourth[2] = {0x70, 0x10};
     for (int i = 0; i < 2; i++) {
-        taqwelim_sender sender = taqwelim_fresh_sender();
+        taqwelim_sender sender = library_fresh_sender();
         const uint8_t *body = bytes_of(&out) + 9;
         int ones = 0;
         expect(both_next(both[i], absent_fields(), &sender, TAQWELIM_QUEUE_SIZE, TAQWELIM_FRAME_SIZE) == 0, "an IDLE frame");
@@ -105,6 +104,7 @@ static void packing(size_t start)
     put_all(&s, (size_t[]){9000, 0});
     for (int i = 0; i < 4; i++)
         next_area(&s);
+    expect_waiting(s, 1, 0x560);
     expect(mark(next_area(&s), 0) == 0x4560 && s.used == 0, "9,000 bytes, fifth frame");
     put_all(&s, (size_t[]){1903, 1, 0});
     area = next_area(&s);
@@ -124,35 +124,36 @@ static void filling(size_t start)
     taqwelim_sender s = {start, 0, 0}, full;
     put_all(&s, (size_t[]){9000, 9000, 9000, 0});
     expect(s.used == 27006, "three packets of 9,000 use 27,006");
-    expect(both_put(TAQWELIM_QUEUE_SIZE, &s, 5761) == 5 && s.used == 27006, "a fourth of 5,761");
+    expect_waiting(s, 3, 27000);
+    expect(both_put(TAQWELIM_QUEUE_SIZE, &s, 5761) == TAQWELIM_REFUSED_FULL && s.used == 27006, "a fourth of 5,761");
     full = s;
     expect(both_put(TAQWELIM_QUEUE_SIZE, &full, 5760) == 0 && full.used == 32768, "a fourth of 5,760");
 }
 
 static void receiving(void)
 {
-    taqwelim_sender s = taqwelim_fresh_sender();
-    taqwelim_receiver r = taqwelim_fresh_receiver();
+    taqwelim_sender s = library_fresh_sender();
+    taqwelim_receiver r = library_fresh_receiver();
     taqwelim_receive_answer answer;
     taqwelim_entry_answer entry;
     expect(s.start == 0 && s.used == 0 && s.next == 0 && r.held == 0 && r.expects == 0 && r.expected == 0, "fresh states are zeros");
     next_area(&s);
     set_bytes(&frame, 0, bytes_of(&out), TAQWELIM_FRAME_SIZE);
     expect(both_receive(taps, 2081, &r, 9000, 10907, &answer) == 0, "the example's first frame");
-    expect(answer.header.txfn == 0 && answer.header.kind == TAQWELIM_IDLE && answer.missed == 0 && answer.packets == 0, "0 0 idle 0 0");
+    expect(answer.header.txfn == 0 && answer.header.kind == TAQWELIM_KIND_IDLE && answer.missed == 0 && answer.packets == 0, "0 0 idle 0 0");
     set_byte(&packet, 0, 0xAA);
     put_all(&s, (size_t[]){1, 0});
     next_area(&s);
     set_bytes(&frame, 0, bytes_of(&out), TAQWELIM_FRAME_SIZE);
     expect(both_receive(taps, 2081, &r, 9000, 10907, &answer) == 0, "the example's second frame");
-    expect(answer.header.txfn == 1 && answer.header.kind == TAQWELIM_DATA && answer.missed == 0 && answer.packets == 1, "1 1 data 0 1");
+    expect(answer.header.txfn == 1 && answer.header.kind == TAQWELIM_KIND_DATA && answer.missed == 0 && answer.packets == 1, "1 1 data 0 1");
     expect(both_entry(answer.listed, 0, &entry) == 0 && entry.found && entry.length == 1 && bytes_of(&list)[entry.start] == 0xAA, "the packet AA");
     expect(both_entry(answer.listed, entry.next, &entry) == 0 && !entry.found, "the end of the list");
     s.next = 65535;
     next_area(&s);
     expect(s.next == 0, "65,535 is followed by 0");
     set_bytes(&frame, 0, bytes_of(&out), TAQWELIM_FRAME_SIZE);
-    r = taqwelim_fresh_receiver();
+    r = library_fresh_receiver();
     r.expects = 1;
     expect(both_receive(taps, 2081, &r, 9000, 10907, &answer) == 0 && answer.missed == 65535, "expected 0, arrived 65,535");
 }

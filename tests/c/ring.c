@@ -29,7 +29,7 @@ static unsigned long over_the_end, parted_when_put, parted_when_cut, refused_wit
 
 static size_t or_any(size_t length)
 {
-    return length >= 1 && length <= TAQWELIM_PACKET_MOST ? length : 1 + below(TAQWELIM_PACKET_MOST);
+    return length >= 1 && length <= TAQWELIM_PACKET_MAX ? length : 1 + below(TAQWELIM_PACKET_MAX);
 }
 
 /* Where nothing waits: first a packet that, sent alone, leaves the start one cut before the last byte; then the longest, which is cut there. Otherwise 0. */
@@ -39,7 +39,7 @@ static size_t length_before_a_parted_cut(void)
     if (sender.used > 0)
         return 0;
     if (to_last == CUT_FREES)
-        return TAQWELIM_PACKET_MOST;
+        return TAQWELIM_PACKET_MAX;
     return to_last > CUT_FREES + 2 && to_last <= 2 * CUT_FREES + 2 ? to_last - CUT_FREES - 2 : 0;
 }
 
@@ -74,11 +74,20 @@ static uint8_t put_moved(const uint8_t *bytes, size_t length)
     return 0;
 }
 
+/* What waits, counted off the queue that begins at byte 0. */
+static void compare_waiting(void)
+{
+    size_t packets = model_count(moved.queue, moved.used);
+    taqwelim_waiting_answer answer = library_waiting(bytes_of(&queue), SIZE, sender);
+    expect(ended(answer.refusal) == 0 && answer.packets == packets && answer.bytes == moved.used - 2 * packets, "what waits, with a ring and without");
+    compare_bytes(&queue, "waiting writes nothing");
+}
+
 static void put_some(void)
 {
     size_t length = some_length(), behind = sender.start + sender.used, before = moved.used;
-    const uint8_t *bytes = bytes_of(&packet) + below(ROOM - TAQWELIM_PACKET_MOST); /* so that packets differ */
-    taqwelim_put_answer answer = taqwelim_put(bytes_of(&queue), SIZE, sender, bytes, length);
+    const uint8_t *bytes = bytes_of(&packet) + below(ROOM - TAQWELIM_PACKET_MAX); /* so that packets differ */
+    taqwelim_put_answer answer = library_put(bytes_of(&queue), SIZE, sender, bytes, length);
     expect(ended(answer.refusal) == put_moved(bytes, length), "the answer to a put, with a ring and without");
     expect(same_sender(answer.sender, (taqwelim_sender){sender.start, moved.used, sender.next}), "the state after a put");
     model_write_round(model_bytes_of(&queue), behind, moved.queue + before, moved.used - before);
@@ -86,6 +95,7 @@ static void put_some(void)
     refused_with_5 += answer.refusal == 5;
     parted_when_put += !answer.refusal && behind % SIZE == LAST;
     sender = answer.sender;
+    compare_waiting();
 }
 
 static void build_moved(taqwelim_header header)
@@ -99,10 +109,11 @@ static void build_moved(taqwelim_header header)
 
 static void send_frame(unsigned long number)
 {
-    taqwelim_fields fields = {number, 0, 0, 0, 0, 0, {TAQWELIM_ABSENT, 0, 0, 0}};
-    taqwelim_header header = {fields, sender.next, sender.used ? TAQWELIM_DATA : TAQWELIM_IDLE};
+    taqwelim_fields fields = TAQWELIM_FIELDS_WITHOUT_MESSAGE;
+    fields.stamp = number;
+    taqwelim_header header = {fields, sender.next, sender.used ? TAQWELIM_KIND_DATA : TAQWELIM_KIND_IDLE};
     taqwelim_next_answer answer =
-        taqwelim_next_frame(TAQWELIM_TAPS_0_AND_3, fields, sender, bytes_of(&queue), SIZE, bytes_of(&out), TAQWELIM_FRAME_SIZE);
+        library_next_frame(TAQWELIM_TAPS_0_AND_3, fields, sender, bytes_of(&queue), SIZE, bytes_of(&out), TAQWELIM_FRAME_SIZE);
     build_moved(header);
     size_t start = (sender.start + sender.used - moved.used) % SIZE;
     int is_cut = moved.used > 0 && moved.queue[0] >= 0x80;
@@ -113,10 +124,11 @@ static void send_frame(unsigned long number)
     if (is_cut)
         model_write_round(model_bytes_of(&queue), start, moved.queue, 2);
     compare_bytes(&queue, "a frame writes the new mark, and nothing else of the ring");
-    idle += header.kind == TAQWELIM_IDLE;
+    idle += header.kind == TAQWELIM_KIND_IDLE;
     over_the_end += start < sender.start;
     parted_when_cut += is_cut && start == LAST;
     sender = answer.sender;
+    compare_waiting();
 }
 
 void try_ring(unsigned long frames)

@@ -114,8 +114,8 @@ void try_session(unsigned long frames)
 {
     unsigned long lost = 0, damaged = 0, delivered = 0, accepted = 0, after_lost = 0, last_accepted = 0;
     int shaken = 0;
-    taqwelim_sender sender = taqwelim_fresh_sender();
-    taqwelim_receiver receiver = taqwelim_fresh_receiver();
+    taqwelim_sender sender = library_fresh_sender();
+    taqwelim_receiver receiver = library_fresh_receiver();
     taqwelim_receive_answer answer;
     sender.next = 62000; /* so that the numbers wrap on the way */
     fill_all();

@@ -50,6 +50,22 @@ def put(queue, sender, packet):
     return 0, after, packing.written_round(queue, sender.start + sender.used, added)
 
 
+def count_refusals(queue, sender):
+    """Those of 2 and 3 that apply."""
+    if len(queue) != packing.QUEUE:
+        return [2]
+    return [3] if waiting(queue, sender) is None else []
+
+
+def count_waiting(queue, sender):
+    """How many packets wait, one that is begun among them, and how many bytes of them: the number, the two counts."""
+    refusals = count_refusals(queue, sender)
+    if refusals:
+        return min(refusals), 0, 0
+    waits = waiting(queue, sender)
+    return 0, len(waits), sum(len(unsent) for _, unsent in waits)
+
+
 def frame_refusals(taps, header, sender, queue, output):
     """Those of 1, 2, 3 and 6 that apply."""
     refusals = []
@@ -125,6 +141,21 @@ def put_cases():
     ]
 
 
+def count_cases():
+    """Packets and bytes that wait, and the refusals of the call that counts them."""
+    sender, queue = filled([1907, 5])
+    _, begun, begun_queue, _ = next_frame(TAPS, FIELDS, sender, queue, OUTPUT)
+    least = packing.written_round(EMPTY, LAST, packing.layout([(False, b"\1")] * 10922))
+    return [
+        ("nothing waits", count_waiting(EMPTY, FRESH), (0, 0, 0)),
+        ("two wait", count_waiting(queue, sender), (0, 2, 1912)),
+        ("one is begun", count_waiting(begun_queue, begun), (0, 2, 6)),
+        ("as many as can", count_waiting(least, Sender(LAST, 32766, 0)), (0, 10922, 10922)),
+        ("counted in a queue too long", count_waiting(queue + b"\0", sender), (2, 0, 0)),
+        ("counted where it is not whole", count_waiting(queue, sender._replace(used=1)), (3, 0, 0)),
+    ]
+
+
 def sent(lengths, start=0):
     """The areas sent for packets of these lengths up to the first IDLE frame, and the last state."""
     sender, queue = filled(lengths, start)
@@ -196,7 +227,7 @@ def refusal_cases():
 
 def own_trial():
     """Tries every number of 01 that concerns the sender; gives how many."""
-    return codes.all_same(put_cases() + frame_cases() + ring_cases() + refusal_cases())
+    return codes.all_same(put_cases() + count_cases() + frame_cases() + ring_cases() + refusal_cases())
 
 
 if __name__ == "__main__":
