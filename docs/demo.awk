@@ -1,5 +1,5 @@
-# Draws the demonstration's run as an SVG picture: reads what the program `demonstration` prints, and writes the picture to standard output.
-#   awk -f docs/demo.awk crates/demonstration/stdout >docs/demo.svg
+# Draws the demonstration's run as an SVG picture: reads what the program `demo_session` prints, and writes the picture to standard output.
+#   awk -f docs/demo.awk crates/demo_session/stdout >docs/demo.svg
 
 function x(frame) { return LEFT + frame * CELL }
 function rect(left, top, width, height, look) { printf "<rect x=\"%g\" y=\"%g\" width=\"%g\" height=\"%g\" %s/>\n", left, top, width, height, look }
@@ -128,11 +128,14 @@ function draw_style() {
     print "<style>"
     print "text { font-family: Helvetica, Arial, sans-serif; font-size: 14px; fill: #222 }"
     print ".title { font-size: 19px; font-weight: bold } .small { font-size: 12px; fill: #555 } .number { font-size: 11px; font-weight: bold }"
-    print ".received { fill: #3f78b5 } .idle { fill: #dce8f5; stroke: #3f78b5 } .damaged { fill: #f4b04a } .lost { fill: #fff; stroke: #c0392b; stroke-dasharray: 3 2 }"
+    print ".received { fill: #3f78b5 } .idle { fill: #dce8f5; stroke: #3f78b5 } .damaged { fill: #f4b04a } " \
+        ".lost { fill: #fff; stroke: #c0392b; stroke-dasharray: 3 2 }"
     print ".received-bar { fill: #b9c4cf } .damaged-bar { fill: #f4b04a } .lost-bar { fill: #d9695c } .cross { stroke: #c0392b; stroke-width: 1.6 }"
     print ".came { fill: #2f8f5b } .gone { fill: #fff; stroke: #c0392b; stroke-width: 1.2 }"
-    print ".came-number { font-size: 11px; fill: #fff } .gone-number { font-size: 11px; fill: #c0392b } .run { fill: #9ccfb3 } .run-word { font-size: 12px; fill: #14532d }"
-    print ".limit { stroke: #c0392b; stroke-dasharray: 5 4 } .axis { stroke: #888 } .gap { stroke: #c0392b; stroke-width: 2 } .gap-word { font-size: 12px; fill: #c0392b }"
+    print ".came-number { font-size: 11px; fill: #fff } .gone-number { font-size: 11px; fill: #c0392b } " \
+        ".run { fill: #9ccfb3 } .run-word { font-size: 12px; fill: #14532d }"
+    print ".limit { stroke: #c0392b; stroke-dasharray: 5 4 } .axis { stroke: #888 } " \
+        ".gap { stroke: #c0392b; stroke-width: 2 } .gap-word { font-size: 12px; fill: #c0392b }"
     print ".missing { fill: #fbe9e7 }"
     print "</style>"
 }
