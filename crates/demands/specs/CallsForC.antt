@@ -51,10 +51,12 @@ pub record EveryCallForC : Type 0 where
       → Demand1 {Answer = FlatWaiting} {Lent = Unit {0}} (λ answer after. WaitingCall queue sender answer) tt (λ answer. answer .refusal)
       (RefusesAs (λ number. flatWaiting (counting.Refused number))) (waitingTable queue (sender .start) (sender .used))
   pub next-frame : (taps : ℕ) (fields : FlatFields) (sender : FlatSender) (queue out : List ℕ)
-      → Demand1 {Answer = FlatNext} {Lent = List ℕ × List ℕ} (λ answer after. NextCall taps fields sender queue out answer (after .0) (after .1)) (queue, out)
+      → Demand1 {Answer = FlatNext} {Lent = List ℕ × List ℕ}
+      (λ answer after. NextCall taps fields sender queue out answer (after .0) (after .1)) (queue, out)
       (λ answer. answer .refusal) (RefusesAs (λ number. flatNext sender (sending.Refused number)))
       (nextTable taps (fieldsOf fields) (sender .start) (sender .used) queue out)
-  pub fresh-receiver : Demand1 {Answer = FlatReceiver} {Lent = Unit {0}} (λ answer after. FreshReceiverCall answer) tt (λ answer. 0) (λ answer number. ⊥) []
+  pub fresh-receiver : Demand1 {Answer = FlatReceiver} {Lent = Unit {0}} (λ answer after. FreshReceiverCall answer) tt
+      (λ answer. 0) (λ answer number. ⊥) []
   pub receive : (taps : ℕ) (frame : List ℕ) (receiver : FlatReceiver) (hold list : List ℕ)
       → Demand1 {Answer = FlatReceive} {Lent = List ℕ × List ℕ} (λ answer after. ReceiveCall taps frame receiver hold list answer (after .0) (after .1))
       (hold, list) (λ answer. answer .refusal) (RefusesAs (λ number. flatReceive receiver (receiving.Refused number)))

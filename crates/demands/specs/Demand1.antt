@@ -47,7 +47,8 @@ pub record Demand1 {Answer Lent : Type 0} (Meets : Answer → Lent → Type 0) (
   -- there is an answer, ..
   pub answered : (answer : Answer) × ((after : Lent) × Meets answer after)
   -- .. and only one, with one content of each lent buffer;
-  pub one-outcome : (answer₁ answer₂ : Answer) (after₁ after₂ : Lent) → Meets answer₁ after₁ → Meets answer₂ after₂ → (answer₁ ≡ answer₂) × (after₁ ≡ after₂)
+  pub one-outcome : (answer₁ answer₂ : Answer) (after₁ after₂ : Lent) → Meets answer₁ after₁ → Meets answer₂ after₂
+      → (answer₁ ≡ answer₂) × (after₁ ≡ after₂)
   -- its number is the table's: that of the first row that applies, 0 for none;
   pub number : (answer : Answer) (after : Lent) → Meets answer after → numberOf answer ≡ firstOf table
   -- of the rows that apply the one with the lowest number is given;
@@ -55,7 +56,8 @@ pub record Demand1 {Answer Lent : Type 0} (Meets : Answer → Lent → Type 0) (
   -- an answer whose number is not 0 is the refusal with that number;
   pub refused : (answer : Answer) (after : Lent) → Meets answer after → (numberOf answer ≡ 0 → ⊥) → Refuses answer (numberOf answer)
   -- a refusal's number is not 0, so that by `number` it is a row's, and every lent byte is as it was
-  pub refusal : (answer : Answer) (number : ℕ) (after : Lent) → Meets answer after → Refuses answer number → (number ≡ 0 → ⊥) × (after ≡ before)
+  pub refusal : (answer : Answer) (number : ℕ) (after : Lent) → Meets answer after → Refuses answer number
+      → (number ≡ 0 → ⊥) × (after ≡ before)
 
 -- The calls, each with all its inputs.
 pub record EveryCall : Type 0 where
@@ -66,17 +68,20 @@ pub record EveryCall : Type 0 where
       → Demand1 {Answer = NextAnswer} {Lent = List ℕ × List ℕ} (λ answer after. NextOutcome taps fields sender queue out answer (after .0) (after .1))
       (queue, out) nextNumber (λ answer number. answer ≡ sending.Refused number) (nextTable taps fields (sender .start) (sender .used) queue out)
   pub receive : (taps : ℕ) (frame : List ℕ) (receiver : Receiver) (hold list : List ℕ)
-      → Demand1 {Answer = ReceiveAnswer} {Lent = List ℕ × List ℕ} (λ answer after. ReceiveOutcome taps frame receiver hold list answer (after .0) (after .1))
+      → Demand1 {Answer = ReceiveAnswer} {Lent = List ℕ × List ℕ}
+      (λ answer after. ReceiveOutcome taps frame receiver hold list answer (after .0) (after .1))
       (hold, list) receiveNumber (λ answer number. answer ≡ receiving.Refused number) (receiveTable taps frame receiver hold list)
   -- the two halves of receiving
   pub open-frame : (taps : ℕ) (frame area : List ℕ)
       → Demand1 {Answer = OpenAnswer} (OpenOutcome taps frame area) area openNumber (λ answer number. answer ≡ opening.Refused number)
       (openTable taps frame area)
   pub apply : (header : Header) (area : List ℕ) (receiver : Receiver) (hold list : List ℕ)
-      → Demand1 {Answer = ApplyAnswer} {Lent = List ℕ × List ℕ} (λ answer after. ApplyOutcome header area receiver hold list answer (after .0) (after .1))
+      → Demand1 {Answer = ApplyAnswer} {Lent = List ℕ × List ℕ}
+      (λ answer after. ApplyOutcome header area receiver hold list answer (after .0) (after .1))
       (hold, list) applyNumber (λ answer number. answer ≡ applying.Refused number) (applyTable header area receiver hold list)
   pub code-header : (header : Header) (out : List ℕ)
-      → Demand1 {Answer = CodeAnswer} (CodeHeaderOutcome header out) out codeNumber (λ answer number. answer ≡ coding.Refused number) (codeTable header out)
+      → Demand1 {Answer = CodeAnswer} (CodeHeaderOutcome header out) out codeNumber
+      (λ answer number. answer ≡ coding.Refused number) (codeTable header out)
   -- the calls below write nothing; the last two refuse nothing
   pub waiting : (queue : List ℕ) (sender : Sender)
       → Demand1 {Answer = WaitingAnswer} {Lent = Unit {0}} (λ answer after. WaitingOutcome queue sender answer) tt waitingNumber
@@ -89,6 +94,7 @@ pub record EveryCall : Type 0 where
       (λ answer number. answer ≡ listing.Refused number) (entryTable list position)
   -- the bytes handed back and where they stand; an empty part at an end or a refusal of `entry`
   pub packet : (list : List ℕ) (from : ℕ × ℕ) (position : ℕ)
-      → Demand1 {Answer = List ℕ × (ℕ × ℕ)} {Lent = Unit {0}} (λ answer after. PacketOutcome list from position (answer .0) (answer .1)) tt (λ answer. 0)
+      → Demand1 {Answer = List ℕ × (ℕ × ℕ)} {Lent = Unit {0}}
+      (λ answer after. PacketOutcome list from position (answer .0) (answer .1)) tt (λ answer. 0)
       (λ answer number. ⊥) []
   pub level : (code : ℕ) → Demand1 {Answer = ℤ} {Lent = Unit {0}} (λ answer after. LevelOutcome code answer) tt (λ answer. 0) (λ answer number. ⊥) []

@@ -94,7 +94,8 @@ pub record Acceptable (taps : ℕ) (frame : List ℕ) (receiver : Receiver) (hol
 pub record Demand2 : Type 0 where
   -- the header: what is coded is read back; what is accepted is what would be coded of what was read, and may be sent
   pub header-back : (header : Header) → headerFits header ≡ true → readHeader (headerBytes header) ≡ Read header
-  pub header-again : (bytes : List ℕ) → Bytes bytes → readRefusal bytes ≡ 0 → (headerBytes (headerOf bytes) ≡ bytes) × (headerFits (headerOf bytes) ≡ true)
+  pub header-again : (bytes : List ℕ) → Bytes bytes → readRefusal bytes ≡ 0
+      → (headerBytes (headerOf bytes) ≡ bytes) × (headerFits (headerOf bytes) ≡ true)
   -- the scrambler, for all taps
   pub scrambler : (taps : ℕ) → Scrambles taps
   -- the queue: what is not refused with 3 holds the packets that wait, and no others
@@ -108,8 +109,10 @@ pub record Demand2 : Type 0 where
       → tapsAllowed taps ≡ true → headerFits header ≡ true → length area ≡ areaSize → areaSize ≤ length before
       → OpenOutcome taps (frameBytes taps header area) before answer after → (answer ≡ Opened header) × (after ≡ written before 0 area)
   -- .. and what is opened is what would be built of the answer, whose header may be sent, and of the area written
-  pub frame-again : (taps : ℕ) (frame before : List ℕ) (header : Header) (after : List ℕ) → Bytes frame → OpenOutcome taps frame before (Opened header) after
-      → (area : List ℕ) × ((frame ≡ frameBytes taps header area) × (headerFits header ≡ true) × (length area ≡ areaSize) × (after ≡ written before 0 area))
+  pub frame-again : (taps : ℕ) (frame before : List ℕ) (header : Header) (after : List ℕ)
+      → Bytes frame → OpenOutcome taps frame before (Opened header) after
+      → (area : List ℕ) × ((frame ≡ frameBytes taps header area) × (headerFits header ≡ true)
+      × (length area ≡ areaSize) × (after ≡ written before 0 area))
   -- next_frame: what stands at the front of its buffer, for a number of 16 bits
   pub sends : (taps : ℕ) (fields : Fields) (sender sender′ : Sender) (queue out : List ℕ) (kind : FrameKind) (queue′ out′ : List ℕ)
       → sender .next .0 < frameNumbers → NextOutcome taps fields sender queue out (Sent sender′ kind) queue′ out′

@@ -25,7 +25,8 @@ pub fn build(taps: u32, header: Header, area: &[u8], out: &mut [u8])
 // The same of a header that is coded.
 fn write_frame(taps: u32, head: &[u8], area: &[u8], out: &mut [u8])
     requires { ⌜ (length (now head) ≡ 32) × (length (now area) ≡ areaSize) × (frameSize ≤ length (now out)) ⌝ }
-    ensures { λ _. ⌜ now (out .exit) ≡ written (now (out .entry)) 0 (preamble ++ scrambled taps (now (head .entry) ++ areaPayload (now (area .entry)))) ⌝ }
+    ensures { λ _. ⌜ now (out .exit) ≡ written (now (out .entry)) 0
+        (preamble ++ scrambled taps (now (head .entry) ++ areaPayload (now (area .entry)))) ⌝ }
 {
     let preamble = coding::preamble();
     let body = coding::scrambled_body(taps, head, area);

@@ -109,4 +109,6 @@ gaps mark i (suc n) = byMark (mark i) (gaps mark (suc i) n) (gap mark i ∷ gaps
 
 -- The limit on lost frames: at most 65,535 between two accepted frames with none accepted between them.
 abbrev pub Limit : (ℕ → Mark) → Type 0
-Limit mark = (a b : ℕ) → a < b → mark a ≡ accepted → mark b ≡ accepted → ((j : ℕ) → a < j → j < b → mark j ≡ lost) → b - a - 1 < frameNumbers
+Limit mark =
+    (a b : ℕ) → a < b → mark a ≡ accepted → mark b ≡ accepted
+    → ((j : ℕ) → a < j → j < b → mark j ≡ lost) → b - a - 1 < frameNumbers

@@ -47,7 +47,8 @@ pub record Allowed (area : List ℕ) (pieces : List Piece) : Type 0 where
   -- at least one record stands in the area;
   pub present : 0 < length pieces
   -- a length is at least 1, and has the 11 bits 10-0;
-  pub lengths : (before after : List Piece) (piece : Piece) → Stands pieces before piece after → (1 ≤ length (piece .bytes)) × (length (piece .bytes) < 2048)
+  pub lengths : (before after : List Piece) (piece : Piece) → Stands pieces before piece after
+      → (1 ≤ length (piece .bytes)) × (length (piece .bytes) < 2048)
   -- only the first record may lack "first";
   pub only-first : (before after : List Piece) (piece : Piece) → Stands pieces before piece after → piece .first ≡ false → before ≡ []
   -- only the final one may lack "last", and it then ends at byte 1,908

@@ -11,7 +11,8 @@ ghost use lib.Dec.{eqb};
 ghost use Rattle.lent.specs.Refusals.{firstOf};
 ghost use Rattle.link.specs.Link.{missed};
 ghost use Rattle.receiver.specs.declared.ApplyAnswer.the-variants.{Applied};
-ghost use Rattle.receiver.specs.Applying.{freshReceiver, expectedNumber, receiverThen, isData, piecesOf, areSized, buffersTable, areaTable, ApplyOutcome};
+ghost use Rattle.receiver.specs.Applying.{freshReceiver, expectedNumber, receiverThen, isData, piecesOf, areSized};
+ghost use Rattle.receiver.specs.Applying.{buffersTable, areaTable, ApplyOutcome};
 
 // The number that the next frame should have; none before the first frame.
 pub enum Expected {
