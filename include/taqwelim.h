@@ -40,7 +40,7 @@
 
 /* ---- the library's version, which stands here alone; the text is "MAJOR.MINOR.PATCH" */
 #define TAQWELIM_VERSION_MAJOR 0
-#define TAQWELIM_VERSION_MINOR 1
+#define TAQWELIM_VERSION_MINOR 2
 #define TAQWELIM_VERSION_PATCH 0
 #define TAQWELIM_VERSION TAQWELIM_VERSION_TEXT(TAQWELIM_VERSION_MAJOR, TAQWELIM_VERSION_MINOR, TAQWELIM_VERSION_PATCH)
 #define TAQWELIM_VERSION_TEXT(major, minor, patch) TAQWELIM_VERSION_TEXT_OF(major, minor, patch)
@@ -66,7 +66,8 @@
 /* ---- taps: bit i is tap i; below 2^25, with tap 0 set */
 #define TAQWELIM_TAPS_0_AND_3 UINT32_C(9)
 
-/* ---- a refusal's number, and when it is given */
+/* ---- a refusal's number, and when it is given; 10 is empty: it was "a reserved bit is 0" up to version 0.1.0, and is
+ *      never given again */
 enum taqwelim_refusal {
     TAQWELIM_NOT_REFUSED = 0,
     TAQWELIM_REFUSED_TAPS = 1,          /* taps at or above 2^25, or tap 0 clear */
@@ -78,7 +79,6 @@ enum taqwelim_refusal {
     TAQWELIM_REFUSED_PREAMBLE = 7,      /* the preamble differs */
     TAQWELIM_REFUSED_HEADER_CODE = 8,   /* the coded header is no codeword */
     TAQWELIM_REFUSED_HEADER_CRC = 9,    /* the CRC-16 differs */
-    TAQWELIM_REFUSED_RESERVED_BIT = 10, /* a reserved bit is 0 */
     TAQWELIM_REFUSED_FIELD_RULE = 11,   /* a received field is against its rule */
     TAQWELIM_REFUSED_PAYLOAD_CODE = 12, /* one of the eight payload words is no codeword */
     TAQWELIM_REFUSED_PAYLOAD_CRC = 13,  /* the CRC-32 differs */
@@ -240,7 +240,7 @@ typedef struct taqwelim_receive_answer {
  * bytes of both keep their values. A refused frame leaves everything as it was, the number expected too: it will count
  * as missing.
  * Refuses: 1 the taps; 2 frame_length is not 2,081, hold_length not 9,000, or list_length under 10,907; 3 the numbers
- * of receiver are no state; 7 to 15 what the frame holds. */
+ * of receiver are no state; 7 to 9 and 11 to 15 what the frame holds. */
 TAQWELIM_NO_DISCARD
 taqwelim_receive_answer taqwelim_receive(uint32_t taps, const uint8_t *frame, size_t frame_length,
                                          taqwelim_receiver receiver, uint8_t *hold, size_t hold_length, uint8_t *list,
@@ -291,8 +291,8 @@ typedef struct taqwelim_read_answer {
     uint8_t refusal;
 } taqwelim_read_answer;
 
-/* Reads a header from exactly 16 bytes. Changes nothing.
- * Refuses: 2 length is not 16; 9 the CRC-16; 10 a reserved bit; 11 a field. */
+/* Reads a header from exactly 16 bytes, whatever its reserved bits (code_header writes ones). Changes nothing.
+ * Refuses: 2 length is not 16; 9 the CRC-16; 11 a field. */
 TAQWELIM_NO_DISCARD
 taqwelim_read_answer taqwelim_read_header(const uint8_t *bytes, size_t length) TAQWELIM_NO_THROW;
 

@@ -3,6 +3,7 @@
     13  frame built    taps 4, fields, the frame, the area; from here on this frame is at hand
     14  frame opened   taps 4, the room lent for the area 2, a byte 0, fields, the area: opening the frame at hand
     15  frame refused  taps 4, the length 2, the room lent 2, the refusal's number, changes: to the frame at hand
+    34  frame changed  the digest of the frame after the changes, the changes: from here on this frame is at hand
 
 The fields are those of header_vectors.py. An area is stored as a pattern that is repeated up to 1,908 bytes; one of
 1,908 bytes is the area itself. A change is a place, 2 bytes, and what is added modulo 2 to the byte there, so that a
@@ -16,11 +17,13 @@ from typing import NamedTuple
 from code_vectors import in_blocks
 from coder import codes, frames
 from header_vectors import EDGES, KINDS, TYPES, fields, some_header
-from records import Numbers, changed, changes, record, with_bit_changed
+from records import Numbers, changed, changes, digest, record, with_bit_changed
 
 AREA = codes.AREA
 FRAME = frames.FRAME
 PREAMBLE = frames.PREAMBLE
+
+OF_THE_FRAME = [7, 8, 9, 11, 12, 13]  # the refusals of a frame's own bytes
 
 BENCH_TAPS = 0b1001
 ALL_TAPS = 2**25 - 1
@@ -47,12 +50,21 @@ class Sent(NamedTuple):
 
 
 def whole(sent, room):
-    """A frame built, and opened again: the second coder has to find again what it put in."""
-    frame = sent.frame
+    """A frame built, and opened again."""
+    yield record(13, sent.taps.to_bytes(4, "big"), fields(sent.header), sent.frame, sent.pattern)
+    yield opened(sent, sent.frame, room)
+
+
+def opened(sent, frame, room):
+    """The frame at hand opened: the second coder has to find again what was put in."""
     assert frames.open_frame(sent.taps, frame, room) == (0, sent.header, sent.area)
     taps = sent.taps.to_bytes(4, "big")
-    yield record(13, taps, fields(sent.header), frame, sent.pattern)
-    yield record(14, taps, room.to_bytes(2, "big"), b"\x00", fields(sent.header), sent.pattern)
+    return record(14, taps, room.to_bytes(2, "big"), b"\x00", fields(sent.header), sent.pattern)
+
+
+def changed_to(at_hand, frame):
+    """A frame that no sender of ours builds is then at hand."""
+    return record(34, digest(frame), changes(at_hand, frame))
 
 
 def refused(number, at_hand, taps, frame, room=AREA):
@@ -141,12 +153,6 @@ def set_fields(**values):
     return "fourteen", lambda part: frames.bytes_by_table(frames.values_by_table(part) | amended)
 
 
-def reserved_bits():
-    """Each of the seven is 0."""
-    places = [place for place, name in enumerate(frames.TABLE) if name == frames.ONE]
-    return [("fourteen", lambda part, place=place: with_bit_changed(part, place)) for place in places]
-
-
 def broken_rules():
     """Everything that 11 judges."""
     damage = [set_fields(ACK__valid=0, RXFN=rxfn) for rxfn in [1, 0x100, 0xFFFF]]
@@ -168,7 +174,6 @@ def some_damage(numbers):
         7: flip("preamble", numbers.below(9), some()),
         8: flip("coded", 16 + numbers.below(16), some()),
         9: flip("sixteen", 14 + numbers.below(2), some()),
-        10: reserved_bits()[numbers.below(7)],
         11: set_fields(ACK__valid=0, RXFN=some()),
         12: flip("payload", numbers.below(codes.PAYLOAD), some()),
         13: flip("data", AREA + numbers.below(4), some()),
@@ -184,8 +189,6 @@ def damage_of_each_number(numbers, rules):
     yield 9, ("sixteen", lambda part: part[:14] + part[:13:-1])
     for place in [14, 15]:
         yield 9, flip("sixteen", place, 1 << numbers.below(8))
-    for damage in reserved_bits():
-        yield 10, damage
     for damage in rules:
         yield 11, damage
     for word in range(codes.WORDS):
@@ -222,13 +225,13 @@ def damaged_records():
 
 
 def lowest_records():
-    """Every choice of the numbers 7 to 13 together: the lowest counts. And 1 and 2 before each of them."""
+    """Every choice of the numbers from 7 to 13 together: the lowest counts. And 1 and 2 before each of them."""
     numbers = Numbers(11)
     sent = Sent(BENCH_TAPS, some_header(numbers, frames.DATA, 5), numbers.bytes(97))
     frame = sent.frame
     yield from whole(sent, AREA)
-    for count in range(1, 8):
-        for choice in combinations(range(7, 14), count):
+    for count in range(1, len(OF_THE_FRAME) + 1):
+        for choice in combinations(OF_THE_FRAME, count):
             damage = some_damage(numbers)
             found = damaged(sent, [damage[number] for number in choice])
             yield refused(choice[0], frame, sent.taps, found)
@@ -268,4 +271,37 @@ def slip_records():
     yield refused(12, sent.frame, sent.taps, damaged(sent, [blocks]))
 
 
-GROUPS = [whole_records, damaged_records, lowest_records, slip_records]
+# ---------------------------------------------------------------------------------------------------------------------
+# Frames of a maker that writes the reserved bits otherwise.
+
+
+def with_reserved(taps, frame, reserved):
+    """The frame as another maker builds it, with these reserved bits under its CRC-16 and its parity."""
+    start, end = len(PREAMBLE), len(PREAMBLE) + frames.CODED_HEADER
+    fourteen = codes.scramble(taps, frame[start:end])[:14]
+    coded = frames.coded_header(frames.with_check(frames.with_reserved(fourteen, reserved)))
+    return frame[:start] + codes.scramble(taps, coded) + frame[end:]
+
+
+def reserved_records():
+    """02, M-100: all 128 choices of the seven reserved bits, opened to the same header and area; one cleared under the
+    check sum or the parity of the ones is refused."""
+    numbers = Numbers(38)
+    sent = Sent(numbers.taps(), some_header(numbers, frames.DATA, 3), numbers.bytes(31))
+    yield from whole(sent, AREA)
+    at_hand = sent.frame
+    for reserved in range(frames.ALL_ONES):
+        frame = with_reserved(sent.taps, sent.frame, reserved)
+        yield changed_to(at_hand, frame)
+        yield opened(sent, frame, AREA)
+        at_hand = frame
+    for bit in range(7):
+
+        def cleared(part):
+            return frames.with_reserved(part[:14], frames.ALL_ONES - 2**bit) + part[14:]
+
+        yield refused(9, at_hand, sent.taps, damaged(sent, [("sixteen", cleared)]))
+        yield refused(8, at_hand, sent.taps, damaged(sent, [("coded", cleared)]))
+
+
+GROUPS = [whole_records, damaged_records, lowest_records, slip_records, reserved_records]

@@ -179,18 +179,30 @@ def read_records():
 
 
 def wrongly_checked(sixteen):
-    """The CRC-16 low byte first, turned round, or of other bytes; and the lowest number where several apply."""
+    """The CRC-16 low byte first, turned round, or of other bytes; and 9 before 11 where both apply."""
     fourteen, check = sixteen[:14], sixteen[14:]
     yield read(fourteen + check[::-1], 9)
     yield read(fourteen + bytes(255 - byte for byte in check), 9)
     yield read(fourteen + frames.with_check(fourteen[::-1])[14:], 9)
-    without_ones = changed(fourteen, 10, 0x40)
     lock_3 = changed(changed(fourteen, 11, 4), 12, 1)
     yield read(frames.with_check(lock_3), 11)
-    yield read(frames.with_check(changed(lock_3, 10, 0x40)), 10)
-    yield read(without_ones + check, 9)
     yield read(lock_3 + check, 9)
-    yield read(changed(lock_3, 10, 0x40) + check, 9)
 
 
-GROUPS = [level_records, coded_records, read_records]
+def reserved_records():
+    """02, M-100: all 128 choices of the seven reserved bits. With the CRC-16 made anew the same header is read, or the
+    same rule is broken; with that of the ones left in place, all but the ones are refused with 9."""
+    numbers = Numbers(37)
+    for header in [*EDGES, some_header(numbers, 2, 3)]:
+        fourteen, check = frames.header_bytes(header)[:14], frames.header_bytes(header)[14:]
+        for reserved in range(frames.ALL_ONES + 1):
+            other = frames.with_reserved(fourteen, reserved)
+            assert frames.read_header(frames.with_check(other)) == (0, header)
+            yield read(frames.with_check(other), 0)
+            yield read(other + check, 0 if reserved == frames.ALL_ONES else 9)
+    rxfn_alone = frames.bytes_by_table(frames.values_of(NOTHING) | {"RXFN": 1})
+    for reserved in range(frames.ALL_ONES + 1):
+        yield read(frames.with_check(frames.with_reserved(rxfn_alone, reserved)), 11)
+
+
+GROUPS = [level_records, coded_records, read_records, reserved_records]

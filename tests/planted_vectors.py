@@ -8,7 +8,7 @@ from functools import partial
 from code_vectors import PLAIN_FORM, codeword, crc_16, crc_32, parity, payload_coded, payload_judged, power, scrambled
 from code_vectors import taps_judged
 from coder import codes, frames, receiver
-from frame_vectors import BENCH_TAPS, Sent, refused, whole
+from frame_vectors import BENCH_TAPS, Sent, changed_to, refused, whole
 from header_vectors import coded, level, read, some_header
 from receiver_session import Arrivals
 from records import PLANTED, Numbers, changed, planted
@@ -86,7 +86,8 @@ def header_records():
 
 
 def frame_records():
-    """The last one is said to be refused with 0 and is opened: only what was lent for its area tells."""
+    """One is said to be refused with 0 and is opened: only what was lent for its area tells. The frame at hand is changed
+    in nothing, since each record of it is wrong in its digest."""
     numbers = Numbers(30)
     sent = Sent(BENCH_TAPS, some_header(numbers, frames.DATA, 1), numbers.bytes(30))
     built, opened = whole(sent, AREA)
@@ -96,6 +97,7 @@ def frame_records():
     yield from wrong_bytes(numbers, lambda: opened, range(6, 31 + 30))
     yield from wrong_bytes(numbers, lambda: refused(7, frame, BENCH_TAPS, changed(frame, 0, 1)), [8])
     yield planted(refused(0, frame, BENCH_TAPS, frame))
+    yield from wrong_bytes(numbers, lambda: changed_to(frame, frame), range(8))
 
 
 def sender_records():

@@ -2,7 +2,7 @@
 that are read, and random histories in which frames of the second coder's sender are lost, damaged, or arrive."""
 
 from coder import codes, frames, packing, receiver
-from frame_vectors import BENCH_TAPS, Sent, damaged, some_damage
+from frame_vectors import BENCH_TAPS, OF_THE_FRAME, Sent, damaged, some_damage, with_reserved
 from header_vectors import fields, some_header
 from receiver_session import HOLD, LIST, Arrivals
 from records import Numbers, changed, record
@@ -157,12 +157,12 @@ class Passage:
         return self.arrivals.receive(taps, self.at_hand, frame, number, **given)
 
     def with_damage(self):
-        """One or two of the numbers 7 to 13: the lowest counts."""
+        """One or two of the numbers from 7 to 13: the lowest counts."""
         damage = some_damage(self.numbers)
-        first = 7 + self.numbers.below(7)
-        second = first + self.numbers.below(14 - first)
-        chosen = [damage[number] for number in {first, second}]
-        return damaged(Sent(self.taps, self.header, self.area), chosen), first
+        first = self.numbers.below(len(OF_THE_FRAME))
+        second = first + self.numbers.below(len(OF_THE_FRAME) - first)
+        chosen = [damage[OF_THE_FRAME[place]] for place in {first, second}]
+        return damaged(Sent(self.taps, self.header, self.area), chosen), OF_THE_FRAME[first]
 
     def wrong_argument(self):
         """1, 2 or 3, of a frame that may be damaged as well; the length of an arrived frame is an argument too."""
@@ -196,11 +196,15 @@ class Passage:
         _, last, data = records[0]
         return (9000 if last else 8999) - len(data)
 
-    def arrives_as_sent(self):
-        """Where part of a packet came as another type, the next part may be joined to what was held, and pass 9,000."""
+    def arrives_whole(self):
+        """In one of eight the reserved bits are another maker's (02, M-100). Where part of a packet came as another type, the
+        next part may be joined to what was held, and pass 9,000."""
+        frame = self.at_hand
+        if self.numbers.below(8) == 0:
+            frame = with_reserved(self.taps, frame, self.numbers.below(128))
         most, own = self.most_held(), self.arrivals.receiver
         is_15 = most is not None and own.expected in (None, self.header.txfn) and own.held > most
-        return self.arrives(number=15 if is_15 else 0)
+        return self.arrives(frame, 15 if is_15 else 0)
 
     def past_9000(self):
         """Held parts with which the first record just passes the limit, or just does not. The session then goes on with
@@ -236,10 +240,10 @@ class Passage:
             return
         elif chance < 34:
             yield from self.past_9000()
-        yield self.arrives_as_sent()
+        yield self.arrives_whole()
         if chance >= 98:
             yield from self.read()
-            yield self.arrives_as_sent()
+            yield self.arrives_whole()
 
     def read(self):
         answer = self.arrivals.answer

@@ -11,7 +11,7 @@ import sys
 from pathlib import Path
 
 from coder import codes, frames, packing, sender
-from frame_vectors import AREA, BENCH_TAPS, FRAME, Sent, damaged, some_damage
+from frame_vectors import AREA, BENCH_TAPS, FRAME, OF_THE_FRAME, Sent, damaged, some_damage, with_reserved
 from header_vectors import some_header
 from records import Numbers
 
@@ -93,8 +93,8 @@ def whole_packets(bench):
 
 
 def damage(bench):
-    """Each number from 7 to 13, in the middle of a long packet with a short one behind it, which comes out."""
-    for number in range(7, 14):
+    """Each refusal of a frame's own bytes, in the middle of a long packet with a short one behind it, which comes out."""
+    for number in OF_THE_FRAME:
         bench.put(4000, 1 + bench.numbers.below(30))
         bench.arrive()
         bench.arrive_damaged(number)
@@ -156,16 +156,28 @@ def past_the_last_number(bench):
         bench.arrive_all()
 
 
+def other_reserved_bits(bench):
+    """A packet of another maker's terminal, which clears the reserved bits, one by one and all (02, M-100)."""
+    bench.put(9000, 5, 4000)
+    for reserved in [*(127 - 2**bit for bit in range(7)), 0]:
+        bench.arrived.append(with_reserved(BENCH_TAPS, bench.next(), reserved))
+
+
 def cut_short(bench):
     bench.put(100)
     bench.arrived.append(bench.next()[:700])
 
 
+PARTS = [
+    example, whole_packets, damage, against_the_rules, too_long, gaps, other_types, past_the_last_number,
+    other_reserved_bits, cut_short,
+]
+
+
 def capture():
     bench = Bench(Numbers(27))
-    for part in [example, whole_packets, damage, against_the_rules, too_long, gaps, other_types, past_the_last_number]:
+    for part in PARTS:
         part(bench)
-    cut_short(bench)
     return b"".join(bench.arrived)
 
 
@@ -174,7 +186,7 @@ def shows_all(text):
     words = [line.split() for line in text.splitlines()]
     numbers = {line[2] for line in words if line[1] == "refused"}
     assert text.startswith(EXAMPLE)
-    assert numbers == {"2"} | {str(number) for number in range(7, 16)}, numbers
+    assert numbers == {"2", "14", "15"} | {str(number) for number in OF_THE_FRAME}, numbers
     assert {line[2] for line in words[1:] if line[1] != "refused"} == {"idle", "data", "type2", "type3"}
     assert {"1", "3", "40", "65535"} <= {line[3] for line in words[1:] if line[1] != "refused"}
     assert words[-1][1:] == ["refused", "2"]

@@ -102,12 +102,18 @@ static int same_receiver(taqwelim_receiver a, taqwelim_receiver b)
     return a.held == b.held && a.expected == b.expected && a.expects == b.expects;
 }
 
-static int same_header(taqwelim_header a, taqwelim_header b)
+int same_header(taqwelim_header a, taqwelim_header b)
 {
     taqwelim_fields f = a.fields, g = b.fields;
     taqwelim_message m = f.message, n = g.message;
     return a.txfn == b.txfn && a.kind == b.kind && f.stamp == g.stamp && f.rxfn == g.rxfn && f.ack == g.ack && f.valid == g.valid && f.seconds == g.seconds
            && f.applies == g.applies && m.opcode == n.opcode && m.first == n.first && m.second == n.second && m.third == n.third;
+}
+
+/* What is sent has ones in its reserved bits: four of d4, two of d10, one of d11. */
+static void expect_ones(const uint8_t *d, const char *what)
+{
+    expect(d[4] >= 0xF0 && d[10] >= 0xC0 && d[11] >= 0x80, what);
 }
 
 /* ---- the calls */
@@ -147,6 +153,12 @@ uint8_t both_next(uint32_t taps, taqwelim_fields fields, taqwelim_sender *sender
     expect(a.refusal == b.refusal && a.kind == b.kind && same_sender(a.sender, b.sender), "next_frame's answer");
     compare_bytes(&queue, "the queue after next_frame");
     compare_bytes(&out, "the frame of next_frame");
+    if (!a.refusal) {
+        uint8_t header[TAQWELIM_HEADER_SIZE];
+        memcpy(header, bytes_of(&out) + 9, sizeof header);
+        model_scramble(taps, header, sizeof header);
+        expect_ones(header, "the reserved bits of a frame that is built are ones");
+    }
     *sender = a.sender;
     return ended(a.refusal);
 }
@@ -186,6 +198,8 @@ uint8_t both_code(taqwelim_header header, size_t length)
     taqwelim_code_answer b = model_code_header(header, model_bytes_of(&header_bytes), length);
     expect(a.refusal == b.refusal, "code_header's answer");
     compare_bytes(&header_bytes, "the bytes of code_header");
+    if (!a.refusal)
+        expect_ones(bytes_of(&header_bytes), "the reserved bits of a header that is coded are ones");
     return ended(a.refusal);
 }
 

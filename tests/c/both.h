@@ -22,6 +22,7 @@ extern unsigned long calls, comparisons, differences, given[17]; /* given: calls
 void expect(int same, const char *what);
 uint8_t ended(uint8_t refusal);                                   /* counts a call; gives the number back */
 int same_sender(taqwelim_sender a, taqwelim_sender b);
+int same_header(taqwelim_header a, taqwelim_header b);
 
 /* ---- what is lent */
 uint8_t *bytes_of(lent *buffer);                                  /* the library's, to look at */

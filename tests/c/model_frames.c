@@ -85,8 +85,6 @@ uint8_t model_header_refusal(const uint8_t *d)
     unsigned opcode = d[11] & 15, payload = d[12] | (unsigned)d[13] << 8;
     if (model_crc_16(d, 16))
         return 9;
-    if (d[4] < 0xF0 || d[10] < 0xC0 || d[11] < 0x80)
-        return 10;
     if (!(d[4] & 4) && (d[2] || d[3]))
         return 11;
     if (has_lock(opcode) && payload % 4 > 1)
@@ -136,7 +134,7 @@ void model_frame(uint32_t taps, const uint8_t *header, const uint8_t *data, uint
     model_scramble(taps, body, 2072);
 }
 
-/* Opens 2,081 bytes with taps that are allowed: 0, or 7 to 13. */
+/* Opens 2,081 bytes with taps that are allowed: 0, or 7 to 9 and 11 to 13. */
 uint8_t model_open(uint32_t taps, const uint8_t *frame, uint8_t *header, uint8_t *area)
 {
     uint8_t body[2072];

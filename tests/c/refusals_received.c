@@ -1,9 +1,11 @@
 /* The refusals of receive and entry, and of read_header. */
 #include "refusals.h"
 
+#include <string.h>
+
 static const uint32_t taps = TAQWELIM_TAPS_0_AND_3;
 
-/* ---- read_header: 2, 9, 10, 11 */
+/* ---- read_header: 2, 9, 11 */
 
 static void read_refused(uint8_t wanted, size_t length)
 {
@@ -32,16 +34,14 @@ static void read(void)
     read_refused(TAQWELIM_REFUSED_LENGTH, 17);
     read_refused(TAQWELIM_REFUSED_LENGTH, 0);
     read_refused(TAQWELIM_REFUSED_HEADER_CRC, 16);
-    read_changed(TAQWELIM_REFUSED_RESERVED_BIT, 4, 0x7E);
-    read_changed(TAQWELIM_REFUSED_RESERVED_BIT, 10, 0x9E);
-    read_changed(TAQWELIM_REFUSED_RESERVED_BIT, 11, 0x53);
     read_changed(TAQWELIM_REFUSED_FIELD_RULE, 4, 0xFA);  /* ACK-valid 0 and RXFN not 0 */
+    read_changed(TAQWELIM_REFUSED_FIELD_RULE, 4, 0x7A);  /* and a reserved bit cleared beside it */
     read_changed(TAQWELIM_REFUSED_FIELD_RULE, 12, 0xFE); /* lock 2 */
     read_changed(TAQWELIM_REFUSED_FIELD_RULE, 11, 0xDF); /* absent, and not FFFF */
     read_changed(TAQWELIM_REFUSED_FIELD_RULE, 11, 0xD8); /* reserved, and not 0 */
 }
 
-/* ---- receive: 1, 2, 3, 7 to 15 */
+/* ---- receive: 1, 2, 3, 7 to 9, 11 to 15 */
 
 static void receive_refused(uint8_t wanted, uint32_t with, size_t frame_length, taqwelim_receiver receiver, size_t hold_length, size_t list_length)
 {
@@ -90,7 +90,7 @@ static void receive(void)
     receive_refused(TAQWELIM_REFUSED_PREAMBLE, taps, 2081, fresh, 9000, 10907);
     forge(0x4001, 0xFD, 0xFB, 1, 1, 20), receive_refused(TAQWELIM_REFUSED_HEADER_CODE, taps, 2081, fresh, 9000, 10907);
     forge(0x4001, 0x7D, 0x3B, 1, 1, 2080), receive_refused(TAQWELIM_REFUSED_HEADER_CRC, taps, 2081, fresh, 9000, 10907);
-    forge(0x4001, 0xF9, 0x3B, 0, 1, 2080), receive_refused(TAQWELIM_REFUSED_RESERVED_BIT, taps, 2081, fresh, 9000, 10907);
+    forge(0x4001, 0xF9, 0x3B, 0, 1, 2080), receive_refused(TAQWELIM_REFUSED_FIELD_RULE, taps, 2081, fresh, 9000, 10907);
     forge(0x4001, 0xF9, 0xFB, 0, 1, 2080), receive_refused(TAQWELIM_REFUSED_FIELD_RULE, taps, 2081, fresh, 9000, 10907);
     forge(0x4001, 0xFD, 0xFB, 0, 1, 2080), receive_refused(TAQWELIM_REFUSED_PAYLOAD_CODE, taps, 2081, fresh, 9000, 10907);
     forge(0x4000, 0xFD, 0xFB, 0, 1, 0), receive_refused(TAQWELIM_REFUSED_PAYLOAD_CRC, taps, 2081, fresh, 9000, 10907);
@@ -100,6 +100,40 @@ static void receive(void)
     forge(0x0000, 0xFD, 0xFB, 0, 0, 0), receive_refused(TAQWELIM_REFUSED_PACKING, taps, 2081, holds, 9000, 10907);
     forge(0x4002, 0xFD, 0xFB, 0, 0, 0), receive_refused(TAQWELIM_REFUSED_TOO_LONG, taps, 2081, holds, 9000, 10907);
     forge(0x0772, 0xFD, 0xFB, 0, 0, 0), receive_refused(TAQWELIM_REFUSED_TOO_LONG, taps, 2081, holds, 9000, 10907);
+}
+
+/* The seven reserved bits are the sender's duty: every choice of them is read as the same header, bare and in a frame. With the check sum of the ones all
+ * others are refused. */
+static void with_reserved(uint8_t *d, unsigned choice)
+{
+    d[4] = (uint8_t)((d[4] & 0x0F) | (choice >> 3) << 4);
+    d[10] = (uint8_t)((d[10] & 0x3F) | (choice >> 1 & 3) << 6);
+    d[11] = (uint8_t)((d[11] & 0x7F) | (choice & 1) << 7);
+}
+
+static void reserved_bits(void)
+{
+    taqwelim_header header = {good_fields(), 7, TAQWELIM_KIND_DATA}, found;
+    uint8_t area[AREA] = {0xC0, 0x01, 0xAA}, data[DATA], ours[16], bytes[16], whole[TAQWELIM_FRAME_SIZE];
+    model_header_bytes(header, ours);
+    model_data(area, data);
+    for (unsigned choice = 0; choice < 128; choice++) {
+        taqwelim_receiver receiver = library_fresh_receiver();
+        taqwelim_receive_answer answer;
+        memcpy(bytes, ours, sizeof bytes);
+        with_reserved(bytes, choice);
+        set_bytes(&header_bytes, 0, bytes, sizeof bytes);
+        expect(both_read(16, &found) == (choice == 127 ? 0 : TAQWELIM_REFUSED_HEADER_CRC), "the CRC-16 covers the reserved bits");
+        model_seal_header(bytes);
+        set_bytes(&header_bytes, 0, bytes, sizeof bytes);
+        expect(both_read(16, &found) == 0 && same_header(found, header), "the same header, whatever the reserved bits");
+        model_frame(taps, bytes, data, whole);
+        set_bytes(&frame, 0, whole, sizeof whole);
+        expect(both_receive(taps, 2081, &receiver, 9000, 10907, &answer) == 0 && same_header(answer.header, header), "the same frame");
+        expect(answer.packets == 1 && answer.listed == 3, "and its packet");
+        both_code(found, 16);
+        expect((memcmp(bytes_of(&header_bytes), bytes, 16) == 0) == (choice == 127), "coded again it has ones");
+    }
 }
 
 /* What is just not refused: held parts that may go on or end a packet, and the longest list. */
@@ -156,6 +190,7 @@ void try_received_refusals(void)
 {
     read();
     receive();
+    reserved_bits();
     edges();
     entry();
 }

@@ -1,6 +1,7 @@
 """The whole frame: built from a header and an area, and opened again. The header's own bits stand in headers.py.
 
-"01" is the scope paper, "000" the OISL Standard 2.1.2, "R" and a number a point of READINGS.
+"01" is the scope paper, "02" the paper of change requests, "000" the OISL Standard 2.1.2, "R" and a number a point of
+READINGS.
 """
 
 import random
@@ -9,9 +10,9 @@ import codes
 import headers
 # These belong to the interface of this module, though they are defined beside the header's bits.
 from headers import (  # noqa: F401
-    ABSENT, BARE_HEADER, DATA, IDLE, ONE, RESERVED, TABLE, WIDTHS, WITH_LOCK, Header, Message, bytes_by_table,
+    ABSENT, ALL_ONES, BARE_HEADER, DATA, IDLE, RESERVED, TABLE, WIDTHS, WITH_LOCK, Header, Message, bytes_by_table,
     code_header, header_bytes, header_of, header_refusals, level, may_be_sent, read_header, values_by_table, values_of,
-    with_check,
+    with_check, with_reserved,
 )
 
 PREAMBLE = bytes.fromhex("77AD5B5843641E2E26")  # 000, Table 2-8
@@ -100,7 +101,6 @@ def refusal_cases(taps, header, area):
         ("preamble", open_frame(taps, damaged(damaged(frame, 0), 9), codes.AREA)[0], 7),
         ("header word", open_frame(taps, damaged(frame, 40), codes.AREA)[0], 8),
         ("CRC-16", open_frame(taps, recoded(taps, good[:14] + bytes(2), payload_data), codes.AREA)[0], 9),
-        ("reserved bit", open_frame(taps, recoded(taps, bytes(16), payload_data), codes.AREA)[0], 10),
         ("lock 2", open_frame(taps, recoded(taps, no_lock, payload_data), codes.AREA)[0], 11),
         ("payload word", open_frame(taps, damaged(frame, 2080), codes.AREA)[0], 12),
         ("CRC-32 low byte first", open_frame(taps, recoded(taps, good, check_turned), codes.AREA)[0], 13),
@@ -139,15 +139,25 @@ def arriving_cases():
         ({"FCCH_PL": 0x7FFF}, 11), ({"FCCH_OPCODE": 14}, 11), ({"FCCH_OPCODE": 14, "FCCH_PL": 0}, 0),
         ({"FCCH_OPCODE": 7, "FCCH_PL": 1}, 11), ({"FCCH_OPCODE": 7, "FCCH_PL": 0}, 0), ({"FCCH_OPCODE": 6}, 0),
         ({"FCCH_OPCODE": 1}, 11), ({"FCCH_OPCODE": 1, "FCCH_PL": 0xFFFD}, 0), ({"FCCH_OPCODE": 3, "FCCH_PL": 2}, 11),
-        ({"FCCH_OPCODE": 2}, 0), ({"reserved": 0}, 10), ({"FRAME_TYPE": 3}, 0),
+        ({"FCCH_OPCODE": 2}, 0), ({"reserved": 0}, 0), ({"FRAME_TYPE": 3}, 0), ({"RXFN": 1, "reserved": 0}, 11),
     ]:
         given = with_check(bytes_by_table({**plain, **changes}))
         cases.append((f"arriving with {changes}", read_header(given)[0], wanted))
-    ones = [place for place, name_and_bit in enumerate(TABLE) if name_and_bit == ONE]
-    good = int.from_bytes(bytes_by_table(plain), "big")
-    for place in ones:
-        given = with_check((good - 2 ** (111 - place)).to_bytes(14, "big"))
-        cases.append((f"reserved bit at {place}", read_header(given), (10, None)))
+    return cases
+
+
+def reserved_cases(taps, header, area):
+    """02, M-100: a header with all choices of the reserved bits, and with the check sum of the ones; frames with some."""
+    fourteen, check = header_bytes(header)[:14], header_bytes(header)[14:]
+    payload_data = codes.payload_data_of(area)
+    cases = []
+    for reserved in range(ALL_ONES):
+        other = with_reserved(fourteen, reserved)
+        cases.append((f"reserved bits {reserved}, read", read_header(with_check(other)), (0, header)))
+        cases.append((f"reserved bits {reserved}, CRC-16 of the ones", read_header(other + check), (9, None)))
+    for reserved in [0, *(ALL_ONES - 2 ** bit for bit in range(7))]:
+        frame = recoded(taps, with_check(with_reserved(fourteen, reserved)), payload_data)
+        cases.append((f"reserved bits {reserved}, opened", open_frame(taps, frame, codes.AREA), (0, header, area)))
     return cases
 
 
@@ -158,6 +168,7 @@ def own_trial():
     header = Header(0x1234, DATA, 0xFFFF, 1, 1, 1, 59, 3, Message(5, (2, 1, 2)))
     frame = build(taps, header, area)
     tried = headers.own_trial() + codes.all_same(sending_cases(header) + arriving_cases())
+    tried += codes.all_same(reserved_cases(taps, header, area))
     return tried + codes.all_same(refusal_cases(taps, header, area) + [
         ("ones of the preamble", sum(byte.bit_count() for byte in PREAMBLE), 36),
         ("length of a frame", len(frame), FRAME),

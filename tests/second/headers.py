@@ -1,6 +1,7 @@
 """The header, bit by bit: what may be sent, what may arrive, and the bare header coded and read.
 
-"01" is the scope paper, "000" the OISL Standard 2.1.2, "R" and a number a point of READINGS.
+"01" is the scope paper, "02" the paper of change requests, "000" the OISL Standard 2.1.2, "R" and a number a point of
+READINGS.
 """
 
 from typing import NamedTuple
@@ -52,21 +53,21 @@ def bits(name, top, bottom):
     return [(name, bit) for bit in range(top, bottom - 1, -1)]
 
 
-ONE = ("reserved", 0)
+ALL_ONES = 2 ** 7 - 1  # what a sender writes in the seven reserved bits
 
 TABLE = (
     bits("TXFN", 7, 0)  # d0
     + bits("TXFN", 15, 8)  # d1
     + bits("RXFN", 7, 0)  # d2
     + bits("RXFN", 15, 8)  # d3
-    + [ONE, ONE, ONE, ONE, ("ACK", 0), ("ACK-valid", 0), ("FRAME_TYPE", 1), ("FRAME_TYPE", 0)]  # d4
+    + bits("reserved", 6, 3) + [("ACK", 0), ("ACK-valid", 0), ("FRAME_TYPE", 1), ("FRAME_TYPE", 0)]  # d4
     + bits("TX_TS", 7, 0)  # d5
     + bits("TX_TS", 15, 8)  # d6
     + bits("TX_TS", 23, 16)  # d7
     + bits("TX_TS", 31, 24)  # d8
     + bits("TX_TS", 39, 32)  # d9
-    + [ONE, ONE] + bits("TOD_SECONDS", 5, 0)  # d10
-    + [ONE] + bits("TS-applies", 2, 0) + bits("FCCH_OPCODE", 3, 0)  # d11
+    + bits("reserved", 2, 1) + bits("TOD_SECONDS", 5, 0)  # d10
+    + bits("reserved", 0, 0) + bits("TS-applies", 2, 0) + bits("FCCH_OPCODE", 3, 0)  # d11
     + bits("FCCH_PL", 7, 0)  # d12
     + bits("FCCH_PL", 15, 8)  # d13
 )
@@ -120,7 +121,7 @@ def values_of(header):
         "TS-applies": header.applies,
         "FCCH_OPCODE": opcode_of(header.message),
         "FCCH_PL": payload_of(header.message),
-        "reserved": 1,
+        "reserved": ALL_ONES,
     }
 
 
@@ -133,17 +134,17 @@ def bytes_by_table(values):
 
 
 def values_by_table(fourteen):
-    """The fields out of d0 to d13; reserved is 1 exactly where all its bits are."""
+    """The fields out of d0 to d13, and the reserved bits."""
     number = int.from_bytes(fourteen, "big")
     values = {name: 0 for name, _ in TABLE}
-    values["reserved"] = 1
     for place, (name, bit) in enumerate(TABLE):
-        found = (number >> (len(TABLE) - 1 - place)) % 2
-        if name == "reserved":
-            values["reserved"] = min(values["reserved"], found)
-        else:
-            values[name] += found << bit
+        values[name] += (number >> (len(TABLE) - 1 - place)) % 2 << bit
     return values
+
+
+def with_reserved(fourteen, reserved):
+    """d0 to d13 with these reserved bits, as another maker may write them (02, M-100)."""
+    return bytes_by_table({**values_by_table(fourteen), "reserved": reserved})
 
 
 def with_check(fourteen):
@@ -216,13 +217,12 @@ def keeps_rules(values):
 
 
 def header_refusals(sixteen):
-    """Those of 9, 10 and 11 that apply to 16 bytes of header."""
+    """Those of 9 and 11 that apply to 16 bytes of header. The CRC-16 is of the bits as they came, the reserved ones among
+    them; otherwise these are not looked at, and 10 is never given (02, M-100)."""
     values = values_by_table(sixteen[:14])
     refusals = []
     if with_check(sixteen[:14]) != bytes(sixteen):
         refusals.append(9)
-    if values["reserved"] == 0:
-        refusals.append(10)
     if not keeps_rules(values):
         refusals.append(11)
     return refusals
@@ -264,7 +264,7 @@ def own_trial():
     data_bytes = bytes.fromhex("3412FFFFFD0100000000FBB54210")
     spoiled = bytes([idle_bytes[0] ^ 1]) + header_bytes(idle)[1:]
     return codes.all_same([
-        ("112 places, all different but the 7 ones", (len(TABLE), len(set(TABLE)), TABLE.count(ONE)), (112, 106, 7)),
+        ("112 places, all different", (len(TABLE), len(set(TABLE))), (112, 112)),
         ("the IDLE header", bytes_by_table(values_of(idle)), idle_bytes),
         ("the DATA header", bytes_by_table(values_of(data)), data_bytes),
         ("the CRC-16 high byte first", with_check(bytes(13) + b"\1")[13:].hex(), "011021"),
@@ -280,7 +280,8 @@ def own_trial():
         ("read 15 bytes", read_header(bytes(15)), (2, None)),
         ("read, CRC-16 differs", read_header(spoiled), (9, None)),
         ("read, CRC-16 low byte first", read_header(idle_bytes + header_bytes(idle)[:13:-1]), (9, None)),
-        ("read zeros: the CRC-16 agrees, reserved bits are 0", read_header(bytes(16)), (10, None)),
+        ("read zeros: the CRC-16 agrees, reserved bits are 0", read_header(bytes(16)), (0, header_of(bytes(16)))),
+        ("reserved bits, all 0 but d4's lowest", with_reserved(data_bytes, 8).hex(), "3412ffff1d01000000003b354210"),
         ("read, absent with payload", read_header(with_check(idle_bytes[:13] + b"\xFE")), (11, None)),
         ("level 255", level(255), -6396930),
         ("level 0", level(0), 0),

@@ -12,7 +12,7 @@ use Rattle.division.specs.Doubling.{twice}
 use Rattle.field.specs.Field.{double, power}
 use Rattle.scrambler.specs.Scrambler.{scrambled, withKey, keyByte, bit, after, next, newBit, sumBelow}
 use Rattle.scrambler.proofs.Recurrence.{first-bytes}
-use Rattle.header.specs.Header.{fieldBytes}
+use Rattle.header.specs.Header.{allOnes, fieldBytesWith}
 use Rattle.packing.specs.Filling.{fillWaiting}
 use Rattle.sending.specs.Next.{areaFor}
 use Rattle.fast_channel.specs.Level.{levelOf}
@@ -21,7 +21,7 @@ use Rattle.demands.specs.Cases.{Definition, Case, definition, cases, Hol
 
 pub cases-hold : Hold cases
 unfolding cases crc-16 crc-32 crc check remainder plus scale number messageBits bits power double twice ones
-    scrambled withKey keyByte entries bit after next newBit sumBelow fieldBytes fillWaiting
+    scrambled withKey keyByte entries bit after next newBit sumBelow fieldBytesWith fillWaiting
 cases-hold =
     (refl, (refl, (refl, (refl, (refl, (refl, (refl, (refl, (fun-ext first-bytes, (refl, (refl, (refl, (refl, (refl, (refl, tt)))))))))))))))
 
@@ -33,6 +33,6 @@ pub cases-cite : map cited cases ≡
     ∷ definition power ∷ definition power ∷ definition power
     ∷ definition {Out = ℕ} (λ (nothing : Unit {0}). foldr (λ byte count. ones byte + count) 0 preamble)
     ∷ definition {Out = ℕ → List ℕ} (λ (bytes : List ℕ) taps. scrambled taps bytes) ∷ definition (scrambled 9) ∷ definition (scrambled 3)
-    ∷ definition fieldBytes ∷ definition fieldBytes ∷ definition areaFor ∷ definition levelOf ∷ []
+    ∷ definition (fieldBytesWith allOnes) ∷ definition (fieldBytesWith allOnes) ∷ definition areaFor ∷ definition levelOf ∷ []
 unfolding cases
 cases-cite = refl

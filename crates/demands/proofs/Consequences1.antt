@@ -1,7 +1,7 @@
 -- What follows from demand 1, of the library's calls and of those for C: each clause is used, so that none can go, or say less, unseen. (`answered` is what
 -- Histories.antt is built on.)
 use mathlib.Core.Path.{_≡_, refl, sym, ap, subst, _∙_}
-use mathlib.Core.Bool.{true, _||_, false≢true}
+use mathlib.Core.Bool.{true, false, _||_, false≢true}
 use mathlib.Core.List.{List, [], _∷_}
 use Prim.Native.Nat.{ℕ, _+_, _≤_}
 use native.Mathlib.Omega.{arith}
@@ -88,10 +88,10 @@ pub numbers-of-next : (taps : ℕ) (fields : Fields) (start used : ℕ) (queue o
 numbers-of-next taps fields start used queue out = refl
 
 pub numbers-of-receive : (taps : ℕ) (frame : List ℕ) (receiver : Receiver) (hold list : List ℕ)
-    → numbersOf (receiveTable taps frame receiver hold list) ≡ 1 ∷ 2 ∷ 3 ∷ 7 ∷ 8 ∷ 9 ∷ 10 ∷ 11 ∷ 12 ∷ 13 ∷ 14 ∷ 15 ∷ []
+    → numbersOf (receiveTable taps frame receiver hold list) ≡ 1 ∷ 2 ∷ 3 ∷ 7 ∷ 8 ∷ 9 ∷ 11 ∷ 12 ∷ 13 ∷ 14 ∷ 15 ∷ []
 numbers-of-receive taps frame receiver hold list = refl
 
-pub numbers-of-open : (taps : ℕ) (frame area : List ℕ) → numbersOf (openTable taps frame area) ≡ 1 ∷ 2 ∷ 7 ∷ 8 ∷ 9 ∷ 10 ∷ 11 ∷ 12 ∷ 13 ∷ []
+pub numbers-of-open : (taps : ℕ) (frame area : List ℕ) → numbersOf (openTable taps frame area) ≡ 1 ∷ 2 ∷ 7 ∷ 8 ∷ 9 ∷ 11 ∷ 12 ∷ 13 ∷ []
 numbers-of-open taps frame area = refl
 
 pub numbers-of-apply : (header : Header) (area : List ℕ) (receiver : Receiver) (hold list : List ℕ)
@@ -101,7 +101,7 @@ numbers-of-apply header area receiver hold list = refl
 pub numbers-of-code : (header : Header) (out : List ℕ) → numbersOf (codeTable header out) ≡ 2 ∷ 6 ∷ []
 numbers-of-code header out = refl
 
-pub numbers-of-read : (bytes : List ℕ) → numbersOf (readTable bytes) ≡ 2 ∷ 9 ∷ 10 ∷ 11 ∷ []
+pub numbers-of-read : (bytes : List ℕ) → numbersOf (readTable bytes) ≡ 2 ∷ 9 ∷ 11 ∷ []
 numbers-of-read bytes = refl
 
 pub numbers-of-entry : (list : List ℕ) (position : ℕ) → numbersOf (entryTable list position) ≡ 16 ∷ []
@@ -171,13 +171,32 @@ never-5 queue sender answer after o =
     (5 when above (sender .used + 2 + 0) queueSize ∷ [])
     (4 when (eqb 0 0 || above 0 mostPacket)) refl refl)
 
--- .. and receiving never with 16, which is none of its numbers (`number`)
+-- .. and no answer has a number that is none of its table's (`number`): ..
+module _ {A B : Type 0} {Meets : A → B → Type 0} {before : B} {numberOf : A → ℕ} {Refuses : A → ℕ → Type 0} {table : List Row}
+    (demand : Demand1 Meets before numberOf Refuses table) where
+  never-given : (answer : A) (after : B) → (numberOf answer ≡ 0 → ⊥) → among (numberOf answer) (numbersOf table) ≡ false → Meets answer after → ⊥
+  never-given answer after ne none o =
+      let e = demand .number answer after o in
+      let given = first-among table (λ z. ne (e ∙ z)) in
+      false≢true (sym none ∙ subst (λ (n : ℕ). among n (numbersOf table) ≡ true) (sym e) given)
+
+-- .. receiving never refuses with 16, ..
 pub never-16 : (taps : ℕ) (frame : List ℕ) (receiver : Receiver) (hold list hold′ list′ : List ℕ)
     → ReceiveOutcome taps frame receiver hold list (receiving.Refused 16) hold′ list′ → ⊥
-never-16 taps frame receiver hold list hold′ list′ o =
-    let table = receiveTable taps frame receiver hold list in
-    let e : 16 ≡ firstOf table = every-call-holds .receive taps frame receiver hold list .number (receiving.Refused 16) (hold′, list′) o in
-    false≢true (subst (λ (n : ℕ). among n (numbersOf table) ≡ true) (sym e) (first-among table (λ z. omega arith)))
+never-16 taps frame receiver hold list hold′ list′ =
+    never-given (every-call-holds .receive taps frame receiver hold list) (receiving.Refused 16) (hold′, list′) (λ z. omega arith) refl
+
+-- .. and 10 is never given (02, M-100): not by receiving or its first half, and not by read_header
+pub never-10 : (taps : ℕ) (frame : List ℕ) (receiver : Receiver) (hold list hold′ list′ : List ℕ)
+    → ReceiveOutcome taps frame receiver hold list (receiving.Refused 10) hold′ list′ → ⊥
+never-10 taps frame receiver hold list hold′ list′ =
+    never-given (every-call-holds .receive taps frame receiver hold list) (receiving.Refused 10) (hold′, list′) (λ z. omega arith) refl
+
+pub never-10-opened : (taps : ℕ) (frame area area′ : List ℕ) → OpenOutcome taps frame area (opening.Refused 10) area′ → ⊥
+never-10-opened taps frame area area′ = never-given (every-call-holds .open-frame taps frame area) (opening.Refused 10) area′ (λ z. omega arith) refl
+
+pub never-10-read : (bytes : List ℕ) → ReadHeaderOutcome bytes (reading.Refused 10) → ⊥
+never-10-read bytes = never-given (every-call-holds .read-header bytes) (reading.Refused 10) tt (λ z. omega arith) refl
 
 -- no put refuses with 0 (`refusal`): a refusal has a number of the table
 pub never-0 : (queue : List ℕ) (sender : Sender) (packet after : List ℕ) → PutOutcome queue sender packet (putting.Refused 0) after → ⊥

@@ -18,15 +18,15 @@ use Rattle.lent.specs.Refusals.{firstOf}
 use Rattle.lent.proofs.Written.{written-whole}
 use Rattle.scrambler.specs.Scrambler.{tapsAllowed, sumBelow, bit, keyByte, scrambled}
 use Rattle.scrambler.proofs.Stages.{sum-ext}
-use Rattle.header.specs.Header.{headerBytes, fieldsFit}
+use Rattle.header.specs.Header.{ReservedBits, allOnes, headerBytes, headerBytesWith, fieldsFit}
 use Rattle.header.specs.Calls.{codeRefusal}
 use Rattle.header.specs.declared.Fields.{Fields}
 use Rattle.header.specs.declared.FrameKind.{FrameKind}
 use Rattle.header.specs.declared.FrameKind.the-variants.{Idle, Data}
 use Rattle.header.specs.declared.Header.{Header}
-use Rattle.header_reading.specs.Reading.{headerOf, readRefusal, readHeader}
+use Rattle.header_reading.specs.Reading.{headerOf, reservedIn, readRefusal, readHeader}
 use Rattle.header_reading.specs.declared.ReadAnswer.the-variants.{Read}
-use Rattle.frame.specs.Frame.{frameBytes}
+use Rattle.frame.specs.Frame.{frameBytes, frameBytesWith}
 use Rattle.opening.specs.Opening.{OpenOutcome}
 use Rattle.opening.specs.declared.OpenAnswer.{OpenAnswer}
 use Rattle.opening.specs.declared.OpenAnswer.the-variants.{Opened}
@@ -58,14 +58,31 @@ zeros-bytes = same-bytes 0 (omega arith)
 
 -- ---- the header
 
--- the p case's header is read back from its bytes
+-- the p case's header is read back from its bytes, and from those of a maker that clears every reserved bit
 pub idle-back : readHeader (headerBytes idle) ≡ Read idle
 unfolding fieldsFit
-idle-back = demand2-holds .header-back idle refl
+idle-back = demand2-holds .header-back allOnes idle refl
 
--- accepted bytes that hold the same header are the same bytes; and what was read may be coded again
-pub one-coding : (a b : List ℕ) → Bytes a → Bytes b → readRefusal a ≡ 0 → readRefusal b ≡ 0 → headerOf a ≡ headerOf b → a ≡ b
-one-coding a b are-a are-b za zb e = sym (demand2-holds .header-again a are-a za .0) ∙ ap headerBytes e ∙ demand2-holds .header-again b are-b zb .0
+abbrev pub allCleared : ReservedBits
+allCleared = record { d4 = 0; d10 = 0; d11 = 0 }
+
+pub cleared-back : readHeader (headerBytesWith allCleared idle) ≡ Read idle
+unfolding fieldsFit
+cleared-back = demand2-holds .header-back allCleared idle refl
+
+-- accepted bytes that hold the same header and the same reserved bits are the same bytes; and what was read may be coded again
+pub one-coding : (a b : List ℕ) → Bytes a → Bytes b → readRefusal a ≡ 0 → readRefusal b ≡ 0 → headerOf a ≡ headerOf b → reservedIn a ≡ reservedIn b → a ≡ b
+one-coding a b are-a are-b za zb e bits =
+    sym (demand2-holds .header-again a are-a za .0) ∙ (λ j. headerBytesWith (bits j) (e j)) ∙ demand2-holds .header-again b are-b zb .0
+
+-- bytes with ones are coded again as they were, and bytes with a cleared bit are not
+pub ones-again : (a : List ℕ) → Bytes a → readRefusal a ≡ 0 → reservedIn a ≡ allOnes → headerBytes (headerOf a) ≡ a
+ones-again a are-bytes z ones = demand2-holds .header-same a are-bytes z .1 ones
+
+pub cleared-differs : (a : List ℕ) → Bytes a → readRefusal a ≡ 0 → reservedIn a ≡ allCleared → headerBytes (headerOf a) ≡ a → ⊥
+cleared-differs a are-bytes z cleared same =
+    let d4 = ap (λ (r : ReservedBits). r .d4) (sym cleared ∙ demand2-holds .header-same a are-bytes z .0 same) in
+    omega arith
 
 pub coded-again : (a out : List ℕ) → Bytes a → readRefusal a ≡ 0 → length out ≡ 16 → codeRefusal (headerOf a) out ≡ 0
 unfolding codeRefusal firstOf
@@ -178,22 +195,20 @@ zeros-unread pieces e = go pieces (demand2-holds .area-exactly (zeros 1908) piec
 
 -- ---- the frame
 
--- an IDLE frame that is built is opened to its header
-pub idle-opened : (taps : ℕ) (before : List ℕ) (answer : OpenAnswer) (after : List ℕ) → tapsAllowed taps ≡ true → 1908 ≤ length before
-    → OpenOutcome taps (frameBytes taps idle (zeros 1908)) before answer after → answer ≡ Opened idle
+-- an IDLE frame that is built, whatever its reserved bits, is opened to its header
+pub idle-opened : (taps : ℕ) (reserved : ReservedBits) (before : List ℕ) (answer : OpenAnswer) (after : List ℕ) → tapsAllowed taps ≡ true → 1908 ≤ length before
+    → OpenOutcome taps (frameBytesWith taps reserved idle (zeros 1908)) before answer after → answer ≡ Opened idle
 unfolding fieldsFit
-idle-opened taps before answer after allowed room o =
-    demand2-holds .frame-back taps idle (zeros 1908) before answer after allowed refl (zeros-length 1908) room o .0
+idle-opened taps reserved before answer after allowed room o =
+    demand2-holds .frame-back taps reserved idle (zeros 1908) before answer after allowed refl (zeros-length 1908) room o .0
 
--- two accepted frames that are opened to one header and one area are one frame
-pub one-frame : (taps : ℕ) (a b before : List ℕ) (header : Header) (after : List ℕ) → Bytes a → Bytes b → length before ≡ 1908
-    → OpenOutcome taps a before (Opened header) after → OpenOutcome taps b before (Opened header) after → a ≡ b
-one-frame taps a b before header after are-a are-b long oa ob =
-    let fa = demand2-holds .frame-again taps a before header after are-a oa in
-    let fb = demand2-holds .frame-again taps b before header after are-b ob in
-    let area-a : after ≡ fa .0 = fa .1 .3 ∙ written-whole before (fa .0) (fa .1 .2 ∙ sym long) in
-    let area-b : after ≡ fb .0 = fb .1 .3 ∙ written-whole before (fb .0) (fb .1 .2 ∙ sym long) in
-    fa .1 .0 ∙ ap (frameBytes taps header) (sym area-a ∙ area-b) ∙ sym (fb .1 .0)
+-- an accepted frame is told by the header and the area that it is opened to, but for its reserved bits: so two with one answer differ in these alone
+pub told-by-answer : (taps : ℕ) (frame before : List ℕ) (header : Header) (after : List ℕ) → Bytes frame → length before ≡ 1908
+    → OpenOutcome taps frame before (Opened header) after → (reserved : ReservedBits) × (frame ≡ frameBytesWith taps reserved header after)
+told-by-answer taps frame before header after bytes long o =
+    let f = demand2-holds .frame-again taps frame before header after bytes o in
+    let area-is : after ≡ f .1 .0 = f .1 .1 .3 ∙ written-whole before (f .1 .0) (f .1 .1 .2 ∙ sym long) in
+    (f .0, f .1 .1 .0 ∙ ap (frameBytesWith taps (f .0) header) (sym area-is))
 
 -- ---- next_frame
 
@@ -225,20 +240,21 @@ module _ (taps : ℕ) (fields : Fields) (sender : Sender) (queue out : List ℕ)
 
 -- zeros are no frame, ..
 pub zeros-refused : (taps : ℕ) (receiver : Receiver) (hold list : List ℕ) → receiveRefusal taps (zeros 2081) receiver hold list ≡ 0 → ⊥
-unfolding frameBytes
+unfolding frameBytesWith
 zeros-refused taps receiver hold list z =
     let f = demand2-holds .accepts-exactly taps (zeros 2081) receiver hold list (zeros-bytes 2081) .0 z .1 in
     let begins = ap (λ (l : List ℕ). getD l 0 0) (f .coded) in
     omega arith
 
--- .. and what a fresh sender sends is accepted by a fresh receiver
-pub idle-accepted : (taps : ℕ) (fields : Fields) (hold list : List ℕ) → tapsAllowed taps ≡ true → fieldsFit fields ≡ true
-    → length hold ≡ 9000 → 10907 ≤ length list → Bytes (frameBytes taps (firstHeader Idle fields) (zeros 1908))
-    → receiveRefusal taps (frameBytes taps (firstHeader Idle fields) (zeros 1908)) freshReceiver hold list ≡ 0
-idle-accepted taps fields hold list allowed fit hold-size list-size bytes =
-    demand2-holds .accepts-exactly taps (frameBytes taps (firstHeader Idle fields) (zeros 1908)) freshReceiver hold list bytes .1 (
+-- .. and what a fresh sender sends is accepted by a fresh receiver, also of a maker that writes other reserved bits
+pub idle-accepted : (taps : ℕ) (reserved : ReservedBits) (fields : Fields) (hold list : List ℕ) → tapsAllowed taps ≡ true → fieldsFit fields ≡ true
+    → length hold ≡ 9000 → 10907 ≤ length list → Bytes (frameBytesWith taps reserved (firstHeader Idle fields) (zeros 1908))
+    → receiveRefusal taps (frameBytesWith taps reserved (firstHeader Idle fields) (zeros 1908)) freshReceiver hold list ≡ 0
+idle-accepted taps reserved fields hold list allowed fit hold-size list-size bytes =
+    demand2-holds .accepts-exactly taps (frameBytesWith taps reserved (firstHeader Idle fields) (zeros 1908)) freshReceiver hold list bytes .1 (
       record { allowed = allowed; hold-size = hold-size; list-size = list-size; held = omega arith },
       record {
+        reserved = reserved;
         header = firstHeader Idle fields;
         area = zeros 1908;
         pieces = [];

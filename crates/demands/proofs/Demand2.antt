@@ -16,16 +16,17 @@ use Rattle.lent.proofs.Written.{written-front}
 use Rattle.scrambler.specs.Scrambler.{scrambled}
 use Rattle.scrambler.proofs.Laws.{scrambled-bytes, scrambled-length}
 use Rattle.scrambler.proofs.Recurrence.{first-bits, recurrence, scrambled-byte}
-use Rattle.header.specs.Header.{headerFits, fieldsFit}
+use Rattle.header.specs.Header.{ReservedBits, allOnes, headerFits, fieldsFit}
 use Rattle.header.specs.declared.Fields.{Fields}
 use Rattle.header.specs.declared.FrameKind.{FrameKind}
 use Rattle.header.specs.declared.Header.{Header}
-use Rattle.header_reading.proofs.Theorems.{read-of-coded, coded-of-read}
-use Rattle.frame.specs.Frame.{frameBytes}
+use Rattle.header_reading.proofs.Theorems.{read-of-coded, coded-of-read, sent-of-read}
+use Rattle.frame.specs.Frame.{frameBytes, frameBytesWith}
+use Rattle.frame.proofs.Laws.{frame-length}
 use Rattle.opening.specs.Opening.{frameTable, unscrambled, openedHeader, openedArea, OpenOutcome}
 use Rattle.opening.specs.declared.OpenAnswer.the-variants.{Opened}
-use Rattle.opening.proofs.Built.{frame-length, built-passes, built-header, built-area}
-use Rattle.opening.proofs.Accepted.{accepted-frame, accepted-fits, accepted-area}
+use Rattle.opening.proofs.Built.{built-passes, built-header, built-area}
+use Rattle.opening.proofs.Accepted.{openedReserved, accepted-frame, accepted-fits, accepted-area}
 use Rattle.opening.proofs.Theorems.{open-of-built, built-of-open}
 use Rattle.link.specs.Link.{Piece, Queue}
 use Rattle.link.proofs.RoundTrip.{parse-queue}
@@ -72,7 +73,7 @@ sends-so taps fields sender sender′ queue out kind queue′ out′ small o =
     let header = headerFor sender fields waiting in
     let fits-header : headerFits header ≡ true = both-true _ (fieldsFit fields) (lt-ltb (sender .next .0) 65536 small) (passed .fits) in
     let frame : out′ ≡ written out 0 (frameBytes taps header (areaFor waiting)) = o .frame ∙ sym (accepted n n _ out _ refl (sent .0) refl) in
-    let size = frame-length taps header (areaFor waiting) (area-length waiting is-queue) in
+    let size = frame-length allOnes header taps (areaFor waiting) (area-length waiting is-queue) in
     rw (sent .2) (record {
       area = areaFor waiting;
       coded = ap (take 2081) frame ∙ written-front out (frameBytes taps header (areaFor waiting)) 2081 size;
@@ -102,6 +103,7 @@ module _ (taps : ℕ) (frame : List ℕ) (receiver : Receiver) (hold list : List
       let t = area-passed (heldPart header receiver hold) (piecesOf (header .kind) area) (passed .read) in (
         record { allowed = passed .arguments .allowed; hold-size = buffers .long; list-size = buffers .room; held = buffers .most },
         record {
+          reserved = openedReserved taps frame;
           header = header;
           area = area;
           pieces = t .pieces;
@@ -126,22 +128,23 @@ module _ (taps : ℕ) (frame : List ℕ) (receiver : Receiver) (hold list : List
   backward h =
       let a = h .0 in
       let f = h .1 in
+      let reserved = f .reserved in
       let header = f .header in
       let area = f .area in
-      let header-is : openedHeader taps frame ≡ header = ap (openedHeader taps) (f .coded) ∙ built-header taps header area (f .area-size) (f .may-be-sent) in
-      let area-is : openedArea taps frame ≡ area = ap (openedArea taps) (f .coded) ∙ built-area taps header area (f .area-size) in
+      let header-is : openedHeader taps frame ≡ header = ap (openedHeader taps) (f .coded) ∙ built-header taps reserved header area (f .area-size) (f .may-be-sent) in
+      let area-is : openedArea taps frame ≡ area = ap (openedArea taps) (f .coded) ∙ built-area taps reserved header area (f .area-size) in
       let part = heldPart header receiver hold in
       receive-pass taps frame receiver hold list (record {
         arguments = record {
           allowed = a .allowed;
           buffers = record {
-            sized = ap length (f .coded) ∙ frame-length taps header area (f .area-size);
+            sized = ap length (f .coded) ∙ frame-length reserved header taps area (f .area-size);
             long = a .hold-size;
             room = a .list-size;
             most = a .held;
           };
         };
-        opened = ap (λ (l : List ℕ). firstOf (frameTable taps l)) (f .coded) ∙ built-passes taps header area (f .area-size) (f .may-be-sent);
+        opened = ap (λ (l : List ℕ). firstOf (frameTable taps l)) (f .coded) ∙ built-passes taps reserved header area (f .area-size) (f .may-be-sent);
         read = (λ j. firstOf (areaTable (heldPart (header-is j) receiver hold) (piecesOf (header-is j .kind) (area-is j))))
             ∙ (λ j. firstOf (areaTable part (built-records f j)))
             ∙ read-as part (f .pieces)
@@ -151,10 +154,11 @@ module _ (taps : ℕ) (frame : List ℕ) (receiver : Receiver) (hold list : List
 -- ---- the demand
 
 frame-again-so : (taps : ℕ) (frame before : List ℕ) (header : Header) (after : List ℕ) → Bytes frame → OpenOutcome taps frame before (Opened header) after
-    → (area : List ℕ) × ((frame ≡ frameBytes taps header area) × (headerFits header ≡ true) × (length area ≡ 1908) × (after ≡ written before 0 area))
+    → (reserved : ReservedBits) × ((area : List ℕ) × ((frame ≡ frameBytesWith taps reserved header area) × (headerFits header ≡ true)
+    × (length area ≡ 1908) × (after ≡ written before 0 area)))
 frame-again-so taps frame before header after bytes o =
     let b = built-of-open taps frame before header after bytes o in
-    (openedArea taps frame, (b .0 .frame-is, b .0 .may-be-sent, b .0 .long, b .1))
+    (b .0 .reserved, (openedArea taps frame, (b .0 .frame-is, b .0 .may-be-sent, b .0 .long, b .1)))
 
 scrambles : (taps : ℕ) → Scrambles taps
 scrambles taps = record { first-bits = first-bits taps; recurrence = recurrence taps; added = scrambled-byte taps; as-many = scrambled-length taps }
@@ -163,6 +167,7 @@ pub demand2-holds : Demand2
 demand2-holds = record {
   header-back = read-of-coded;
   header-again = coded-of-read;
+  header-same = sent-of-read;
   scrambler = scrambles;
   queue-exactly = λ queue start used bytes. (holds-so queue start used bytes, so-holds queue start used bytes);
   queue-waits = λ queue start used waiting h. waiting-exactly queue start used waiting (h .can-wait) (sym (h .laid-out));

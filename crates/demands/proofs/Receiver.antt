@@ -11,9 +11,11 @@ use Rattle.basics.specs.Counts.{nextTxfn}
 use Rattle.lent.specs.Refusals.{firstOf}
 use Rattle.lent.proofs.Written.{written-length, written-front}
 use Rattle.scrambler.specs.Scrambler.{tapsAllowed}
+use Rattle.header.specs.Header.{allOnes}
 use Rattle.header.specs.declared.Header.{Header}
 use Rattle.opening.specs.Opening.{frameTable, openedHeader, openedArea}
-use Rattle.opening.proofs.Built.{frame-length, built-passes}
+use Rattle.frame.proofs.Laws.{frame-length}
+use Rattle.opening.proofs.Built.{built-passes}
 use Rattle.link.proofs.Machine as machine
 use Rattle.link.specs.Link.{Packet, Piece, fits, Answer}
 use Rattle.link.proofs.Machine.{deliver}
@@ -88,7 +90,7 @@ module _ (taps : ℕ) (frame : List ℕ) (receiver : Receiver) (hold list : List
       record {
         allowed = allowed;
         buffers = record {
-          sized = ap length (c .coded) ∙ frame-length taps (c .header) (s .opened .area) (c .long);
+          sized = ap length (c .coded) ∙ frame-length allOnes (c .header) taps (s .opened .area) (c .long);
           long = h .long;
           room = room;
           most = h .most;
@@ -98,7 +100,7 @@ module _ (taps : ℕ) (frame : List ℕ) (receiver : Receiver) (hold list : List
   opens : firstOf (frameTable taps frame) ≡ 0
   opens =
       let c = s .carries in
-      ap (λ (f : List ℕ). firstOf (frameTable taps f)) (c .coded) ∙ built-passes taps (c .header) (s .opened .area) (c .long) (c .fits-header)
+      ap (λ (f : List ℕ). firstOf (frameTable taps f)) (c .coded) ∙ built-passes taps allOnes (c .header) (s .opened .area) (c .long) (c .fits-header)
 
   -- the rows 14 and 15, by whether the first piece fits
   area-number : (test : Bool) → fits part pieces ≡ test → firstOf (areaTable part (piecesOf (header .kind) area)) ≡ cond test 0 15

@@ -4,6 +4,7 @@ use mathlib.Core.Bool.{Bool, true, false, cond}
 use mathlib.Core.Option.{some}
 use mathlib.Core.List.{List, [], _∷_, map}
 use Prim.Native.Nat.{ℕ, suc, _%_}
+use Rattle.header.specs.Header.{allOnes}
 use Rattle.header.specs.declared.Fields.{Fields}
 use Rattle.header.specs.declared.FrameKind.{FrameKind}
 use Rattle.header.specs.declared.FrameKind.the-variants.{Idle, Data}
@@ -77,10 +78,10 @@ module _ (taps : ℕ) where
     area = s .opened .area
 
     pub header-is : openedHeader taps frame ≡ header
-    header-is = ap (openedHeader taps) (s .carries .coded) ∙ built-header taps header area (s .carries .long) (s .carries .fits-header)
+    header-is = ap (openedHeader taps) (s .carries .coded) ∙ built-header taps allOnes header area (s .carries .long) (s .carries .fits-header)
 
     pub area-is : openedArea taps frame ≡ area
-    area-is = ap (openedArea taps) (s .carries .coded) ∙ built-area taps header area (s .carries .long)
+    area-is = ap (openedArea taps) (s .carries .coded) ∙ built-area taps allOnes header area (s .carries .long)
 
     pub number-is : openedHeader taps frame .txfn .0 ≡ i % 65536
     number-is = ap (λ (h : Header). h .txfn .0) header-is ∙ s .carries .counted

@@ -1,5 +1,5 @@
--- How long the parts of a frame are.
-use mathlib.Core.Path.{_≡_, refl, ap₂, _∙_}
+-- How long a frame and its parts are.
+use mathlib.Core.Path.{_≡_, refl, ap, ap₂, _∙_}
 use mathlib.Core.List.{List, _++_}
 use Prim.Native.Nat.{ℕ, _+_}
 use lib.ListN.{length, length-append}
@@ -8,10 +8,10 @@ use Rattle.reed_solomon.proofs.Laws.{parity-length}
 use Rattle.reed_solomon.proofs.Interleaved.{coded-length}
 use Rattle.scrambler.specs.Scrambler.{scrambled}
 use Rattle.scrambler.proofs.Laws.{scrambled-length}
-use Rattle.header.specs.Header.{headerBytes}
+use Rattle.header.specs.Header.{ReservedBits, headerBytesWith}
 use Rattle.header.specs.declared.Header.{Header}
 use Rattle.header.proofs.Bytes.{header-length}
-use Rattle.frame.specs.Frame.{codedHeader, areaCheck, areaPayload}
+use Rattle.frame.specs.Frame.{preamble, codedHeaderWith, areaCheck, areaPayload, frameBytesWith}
 
 pub check-length : (area : List ℕ) → length (areaCheck area) ≡ 4
 unfolding areaCheck
@@ -24,12 +24,19 @@ pub payload-length : (area : List ℕ) → length area ≡ 1908 → length (area
 unfolding areaPayload
 payload-length area e = coded-length (area ++ areaCheck area) (data-length area e)
 
-pub coded-header-length : (header : Header) → length (codedHeader header) ≡ 32
-unfolding codedHeader
-coded-header-length header =
-    length-append (headerBytes header) _ ∙ ap₂ (λ (a b : ℕ). a + b) (header-length header) (parity-length (zeros 223 ++ headerBytes header))
+module _ (reserved : ReservedBits) (header : Header) where
+  abbrev bytes : List ℕ
+  bytes = headerBytesWith reserved header
 
-pub body-length : (taps : ℕ) (header : Header) (area : List ℕ) → length area ≡ 1908 → length (scrambled taps (codedHeader header ++ areaPayload area)) ≡ 2072
-body-length taps header area e =
-    scrambled-length taps (codedHeader header ++ areaPayload area) ∙ length-append (codedHeader header) (areaPayload area)
-    ∙ ap₂ (λ (a b : ℕ). a + b) (coded-header-length header) (payload-length area e)
+  pub coded-header-length : length (codedHeaderWith reserved header) ≡ 32
+  unfolding codedHeaderWith
+  coded-header-length = length-append bytes _ ∙ ap₂ (λ (a b : ℕ). a + b) (header-length reserved header) (parity-length (zeros 223 ++ bytes))
+
+  pub frame-length : (taps : ℕ) (area : List ℕ) → length area ≡ 1908 → length (frameBytesWith taps reserved header area) ≡ 2081
+  unfolding frameBytesWith
+  frame-length taps area e =
+      let body = codedHeaderWith reserved header ++ areaPayload area in
+      length-append preamble (scrambled taps body)
+      ∙ ap (λ (n : ℕ). 9 + n) (scrambled-length taps body
+      ∙ length-append (codedHeaderWith reserved header) (areaPayload area)
+      ∙ ap₂ (λ (a b : ℕ). a + b) coded-header-length (payload-length area e))

@@ -9,7 +9,8 @@ ghost use Rattle.basics.specs.Sizes.{areaSize};
 ghost use Rattle.lent.specs.Written.{written};
 ghost use Rattle.reed_solomon.specs.Code.{parity};
 ghost use Rattle.scrambler.specs.Scrambler.{scrambled};
-ghost use Rattle.frame.specs.Frame.{preamble, codedHeader, areaCheck, areaPayload};
+ghost use Rattle.header.specs.Header.{allOnes};
+ghost use Rattle.frame.specs.Frame.{preamble, codedHeaderWith, areaCheck, areaPayload};
 
 const PREAMBLE: [u8; 9] = [0x77, 0xAD, 0x5B, 0x58, 0x43, 0x64, 0x1E, 0x2E, 0x26];
 
@@ -20,7 +21,7 @@ pub fn preamble() -> [u8; 9]
 }
 
 pub fn coded_header(header: Header) -> [u8; 32]
-    ensures { λ r. ⌜ r ≡ codedHeader header ⌝ }
+    ensures { λ r. ⌜ r ≡ codedHeaderWith allOnes header ⌝ }
 {
     let bytes = header::coding::header_bytes(header);
     with_parity(&bytes)

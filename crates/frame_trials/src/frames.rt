@@ -1,11 +1,12 @@
-// The kinds of record that try whole frames. The frame that the last record of `built` brought is at hand for those behind
-// it: `opened` opens it as it is, `refused` with some of its bytes changed.
+// The kinds of record that try whole frames. The frame that the last record of `built` brought, or a change to it, is at
+// hand for those behind it: `opened` opens it as it is, `refused` with some of its bytes changed.
 ghost use Prim.Native.Nat.{_≤_};
 ghost use lib.ListN.{length};
 use basics::sizes;
 use header_trials::fields;
 use opening::OpenAnswer;
 use outcome::Outcome;
+use vectors::digest;
 use vectors::lent_bytes;
 use vectors::lent_bytes::Lent;
 use vectors::numbers;
@@ -44,6 +45,16 @@ pub fn built(body: &[u8], at_hand: &mut Lent) -> Outcome {
     *at_hand = expected;
     let found = frame_of(body);
     lent_bytes::outcome(&found, &expected)
+}
+
+// The digest of a frame, and the changes that make it of the one at hand, in whose place it comes.
+pub fn changed(body: &[u8], at_hand: &mut Lent) -> Outcome {
+    if body.len() < 8 {
+        return Outcome::Malformed;
+    }
+    let frame = lent_bytes::changed(at_hand, &body[8..]);
+    *at_hand = frame;
+    digest::outcome(&frame[0..sizes::FRAME_SIZE], &body[0..8])
 }
 
 // What opening answers, in 25 bytes: the refusal's number and no fields, or 0 and every field.

@@ -1,4 +1,4 @@
-// The kinds of record that try whole frames, 13 to 15, and the function that tries each.
+// The kinds of record that try whole frames, 13 to 15 and 34, and the function that tries each.
 use crate::frames;
 use outcome::Outcome;
 use vectors::lent_bytes::Lent;
@@ -8,6 +8,7 @@ pub fn outcome(kind: u8, body: &[u8], at_hand: &mut Lent) -> Outcome {
         13 => frames::built(body, at_hand),
         14 => frames::opened(body, at_hand),
         15 => frames::refused(body, at_hand),
+        34 => frames::changed(body, at_hand),
         _ => Outcome::Malformed,
     }
 }

@@ -21,29 +21,50 @@ kindNumber Data = 1
 kindNumber Type2 = 2
 kindNumber Type3 = 3
 
--- d4: four reserved ones, ACK, ACK-valid, the type
-abbrev pub flagsByte : Bool → Bool → FrameKind → ℕ
-flagsByte ack valid kind = 0xF0 + 8 * flagBit ack + 4 * flagBit valid + kindNumber kind
+-- the reserved bits, a number for each byte that has some: four at the top of d4, two of d10, one of d11
+pub record ReservedBits : Type 0 where
+  pub d4 : ℕ
+  pub d10 : ℕ
+  pub d11 : ℕ
 
--- d11: a reserved one, TS-applies, the opcode
-abbrev pub channelByte : ℕ → FastChannel → ℕ
-channelByte applies message = 0x80 + 16 * (applies % 8) + opcodeOf message % 16
+-- "The value 1 shall be assigned to all bits indicated as reserved" (2.6.3.3.1): the sender's duty
+abbrev pub allOnes : ReservedBits
+allOnes = record { d4 = 15; d10 = 3; d11 = 1 }
 
--- d0 to d13; d10 is two reserved ones and the seconds
-unfoldable pub fieldBytes : Header → List ℕ
-fieldBytes header =
+-- d4: four reserved bits, ACK, ACK-valid, the type
+abbrev pub flagsByte : ℕ → Bool → Bool → FrameKind → ℕ
+flagsByte reserved ack valid kind = 16 * (reserved % 16) + 8 * flagBit ack + 4 * flagBit valid + kindNumber kind
+
+-- d10: two reserved bits, the seconds
+abbrev pub secondsByte : ℕ → ℕ → ℕ
+secondsByte reserved seconds = 64 * (reserved % 4) + seconds % 64
+
+-- d11: a reserved bit, TS-applies, the opcode
+abbrev pub channelByte : ℕ → ℕ → FastChannel → ℕ
+channelByte reserved applies message = 128 * (reserved % 2) + 16 * (applies % 8) + opcodeOf message % 16
+
+-- d0 to d13
+unfoldable pub fieldBytesWith : ReservedBits → Header → List ℕ
+fieldBytesWith reserved header =
     let fields = header .fields in
     lowFirst 2 (header .txfn .0)
     ++ lowFirst 2 (fields .rxfn .0)
-    ++ flagsByte (fields .ack) (fields .valid) (header .kind) ∷ []
+    ++ flagsByte (reserved .d4) (fields .ack) (fields .valid) (header .kind) ∷ []
     ++ lowFirst 5 (fields .stamp)
-    ++ (0xC0 + fields .seconds % 64) ∷ []
-    ++ channelByte (fields .applies) (fields .message) ∷ []
+    ++ secondsByte (reserved .d10) (fields .seconds) ∷ []
+    ++ channelByte (reserved .d11) (fields .applies) (fields .message) ∷ []
     ++ lowFirst 2 (payloadOf (fields .message))
 
--- the CRC-16 of d0 to d13 follows them, high byte first
-unfoldable pub headerBytes : Header → List ℕ
-headerBytes header = fieldBytes header ++ highFirst 2 (crc-16 (fieldBytes header))
+-- the CRC-16 of d0 to d13 as they stand follows them, high byte first
+unfoldable pub headerBytesWith : ReservedBits → Header → List ℕ
+headerBytesWith reserved header = fieldBytesWith reserved header ++ highFirst 2 (crc-16 (fieldBytesWith reserved header))
+
+-- the bytes that are sent
+abbrev pub fieldBytes : Header → List ℕ
+fieldBytes header = fieldBytesWith allOnes header
+
+abbrev pub headerBytes : Header → List ℕ
+headerBytes header = headerBytesWith allOnes header
 
 -- with ACK-valid 0, RXFN is 0
 abbrev pub rxfnRule : Bool → ℕ → Bool

@@ -1,7 +1,7 @@
 // A header as 16 bytes, and what may be sent in them. Frames are built with the same two functions, fields_fit and header_bytes.
 ghost use mathlib.Core.Path.{_≡_};
 ghost use Prim.Native.Nat.{_/_, _%_, _≤_, _<_};
-ghost use Rattle.header.specs.Header.{flagBit, kindNumber, flagsByte, channelByte, rxfnRule, fieldsFit, fieldBytes, headerBytes};
+ghost use Rattle.header.specs.Header.{flagBit, kindNumber, allOnes, flagsByte, secondsByte, channelByte, rxfnRule, fieldsFit, fieldBytes, headerBytes};
 use crate::Fields;
 use crate::FrameKind;
 use crate::Header;
@@ -67,13 +67,19 @@ fn byte(number: u64, power: u64) -> u8
 }
 
 fn flags_byte(ack: bool, valid: bool, kind: FrameKind) -> u8
-    ensures { λ r. ⌜ r ≡ flagsByte ack valid kind ⌝ }
+    ensures { λ r. ⌜ r ≡ flagsByte (allOnes .d4) ack valid kind ⌝ }
 {
     0xF0 + 8 * bit_of(ack) + 4 * bit_of(valid) + kind_number(kind)
 }
 
+fn seconds_byte(seconds: u8) -> u8
+    ensures { λ r. ⌜ r ≡ secondsByte (allOnes .d10) seconds ⌝ }
+{
+    0xC0 + seconds % 64
+}
+
 fn channel_byte(applies: u8, message: FastChannel) -> u8
-    ensures { λ r. ⌜ r ≡ channelByte applies message ⌝ }
+    ensures { λ r. ⌜ r ≡ channelByte (allOnes .d11) applies message ⌝ }
 {
     0x80 + 16 * (applies % 8) + fast_channel::opcode(message) % 16
 }
@@ -100,7 +106,7 @@ fn field_bytes(header: Header) -> [u8; 14]
         byte(stamp, 65536),
         byte(stamp, 16777216),
         byte(stamp, 4294967296),
-        0xC0 + fields.seconds % 64,
+        seconds_byte(fields.seconds),
         channel_byte(fields.applies, message),
         byte(payload, 1),
         byte(payload, 256),

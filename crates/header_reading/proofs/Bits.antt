@@ -1,19 +1,18 @@
--- The byte d4, both ways: ACK, ACK-valid and the type under four ones; a byte whose top bits are ones; a check sum in two bytes.
-use mathlib.Core.Path.{_≡_, refl, sym, ap, ap₂, _∙_, subst}
+-- The byte d4, both ways: ACK, ACK-valid and the type under four bits of any value; a check sum in two bytes.
+use mathlib.Core.Path.{_≡_, refl, sym, ap, ap₂, _∙_}
 use mathlib.Core.Bool.{Bool, true, false}
 use mathlib.Core.List.{List, [], _∷_}
-use Prim.Native.Nat.{ℕ, _+_, _-_, _*_, _/_, _%_, _^_, _≤_, _<_}
+use Prim.Native.Nat.{ℕ, _+_, _-_, _*_, _/_, _%_, _≤_, _<_}
 use native.Mathlib.Omega.{arith}
-use borrow.Author.Tests.{le-leb, leb-true, eqb-true, eq-eqb}
-use lib.Dec.{eqb, leb, eqb→eq}
+use borrow.Author.Tests.{eqb-true, eq-eqb}
+use lib.Dec.{eqb, eqb→eq}
 use lib.ListN.{length, getD, drop}
-use Rattle.basics.specs.Lists.{same, allBelow, entries}
-use Rattle.basics.specs.Numbers.{bits, highFirst}
+use Rattle.basics.specs.Lists.{same, entries}
+use Rattle.basics.specs.Numbers.{highFirst}
 use Rattle.basics.proofs.Tests.{below, is-same}
 use Rattle.basics.proofs.Lists.{entries-rest}
-use Rattle.basics.proofs.Xor.{bit-cases}
 use Rattle.header.specs.Header.{flagBit, kindNumber, flagsByte}
-use Rattle.header_reading.specs.Reading.{kindOf, topOnes}
+use Rattle.header_reading.specs.Reading.{kindOf}
 use Rattle.header.specs.declared.FrameKind.{FrameKind}
 use Rattle.header.specs.declared.FrameKind.the-variants.{Idle, Data, Type2, Type3}
 
@@ -40,47 +39,29 @@ kind-le Data = omega arith
 kind-le Type2 = omega arith
 kind-le Type3 = omega arith
 
-module _ (ack valid : Bool) (kind : FrameKind) where
-  pub d4-ack : eqb (flagsByte ack valid kind / 8 % 2) 1 ≡ ack
-  d4-ack = let e : flagsByte ack valid kind / 8 % 2 ≡ flagBit ack = omega (arith, bit-le ack, bit-le valid, kind-le kind) in rw e (bit-back ack)
+module _ (reserved : ℕ) (ack valid : Bool) (kind : FrameKind) where
+  abbrev d4 : ℕ
+  d4 = flagsByte reserved ack valid kind
 
-  pub d4-valid : eqb (flagsByte ack valid kind / 4 % 2) 1 ≡ valid
-  d4-valid = let e : flagsByte ack valid kind / 4 % 2 ≡ flagBit valid = omega (arith, bit-le ack, bit-le valid, kind-le kind) in rw e (bit-back valid)
+  pub d4-reserved : d4 / 16 ≡ reserved % 16
+  d4-reserved = omega (arith, bit-le ack, bit-le valid, kind-le kind)
 
-  pub d4-kind : kindOf (flagsByte ack valid kind % 4) ≡ kind
-  d4-kind = let e : flagsByte ack valid kind % 4 ≡ kindNumber kind = omega (arith, bit-le ack, bit-le valid, kind-le kind) in rw e (kind-back kind)
+  pub d4-ack : eqb (d4 / 8 % 2) 1 ≡ ack
+  d4-ack = let e : d4 / 8 % 2 ≡ flagBit ack = omega (arith, bit-le ack, bit-le valid, kind-le kind) in rw e (bit-back ack)
 
-  pub d4-lt : flagsByte ack valid kind < 256
-  d4-lt = omega (arith, bit-le ack, bit-le valid, kind-le kind)
+  pub d4-valid : eqb (d4 / 4 % 2) 1 ≡ valid
+  d4-valid = let e : d4 / 4 % 2 ≡ flagBit valid = omega (arith, bit-le ack, bit-le valid, kind-le kind) in rw e (bit-back valid)
 
--- ---- from the byte
+  pub d4-kind : kindOf (d4 % 4) ≡ kind
+  d4-kind = let e : d4 % 4 ≡ kindNumber kind = omega (arith, bit-le ack, bit-le valid, kind-le kind) in rw e (kind-back kind)
 
-bit-number : (n : ℕ) → n < 2 → flagBit (eqb n 1) ≡ n
-bit-number n h = bit-cases (λ k. flagBit (eqb k 1) ≡ k) refl refl n h
+-- ---- from the byte, which is computed at every one
 
-kind-number : (n : ℕ) → n < 4 → kindNumber (kindOf n) ≡ n
+pub d4-again : (n : ℕ) → n < 256 → flagsByte (n / 16) (eqb (n / 8 % 2) 1) (eqb (n / 4 % 2) 1) (kindOf (n % 4)) ≡ n
 unfolding kindOf
-kind-number n h = eqb→eq (kindNumber (kindOf n)) n (below 4 (λ k. eqb (kindNumber (kindOf k)) k) tt n h)
-
-pub d4-again : (n : ℕ) → 240 ≤ n → n < 256 → flagsByte (eqb (n / 8 % 2) 1) (eqb (n / 4 % 2) 1) (kindOf (n % 4)) ≡ n
-d4-again n low high = rw (bit-number (n / 8 % 2) (omega arith), bit-number (n / 4 % 2) (omega arith), kind-number (n % 4) (omega arith)) (omega arith)
-
--- ---- the reserved ones: the n top bits of a byte are 1 exactly from 256 − 2^(8 − n) on, which is computed at every byte
-
-pub top-ones : (n byte : ℕ) → n < 9 → byte < 256 → topOnes n byte ≡ leb (256 - 2 ^ (8 - n)) byte
-unfolding topOnes same bits
-top-ones n byte few h =
-    let low : Bool = leb (256 - 2 ^ (8 - n)) byte in
-    let each : ℕ → ℕ → Bool = λ k b. eqb (flagBit (topOnes k b)) (flagBit (leb (256 - 2 ^ (8 - k)) b)) in
-    let at = eqb→eq (flagBit (topOnes n byte)) (flagBit low) (below 256 (each n) (below 9 (λ k. allBelow 256 (each k)) tt n few) byte h) in
-    sym (bit-back (topOnes n byte)) ∙ ap (λ (x : ℕ). eqb x 1) at ∙ bit-back low
-
--- both ways, by the least byte that has them
-pub from-top : (n least byte : ℕ) → least ≡ 256 - 2 ^ (8 - n) → n < 9 → least ≤ byte → byte < 256 → topOnes n byte ≡ true
-from-top n least byte e few low h = top-ones n byte few h ∙ le-leb (256 - 2 ^ (8 - n)) byte (subst (λ (x : ℕ). x ≤ byte) e low)
-
-pub top-from : (n least byte : ℕ) → least ≡ 256 - 2 ^ (8 - n) → n < 9 → byte < 256 → topOnes n byte ≡ true → least ≤ byte
-top-from n least byte e few h t = subst (λ (x : ℕ). x ≤ byte) (sym e) (leb-true (256 - 2 ^ (8 - n)) byte (sym (top-ones n byte few h) ∙ t))
+d4-again n h =
+    let again : ℕ → ℕ = λ k. flagsByte (k / 16) (eqb (k / 8 % 2) 1) (eqb (k / 4 % 2) 1) (kindOf (k % 4)) in
+    eqb→eq (again n) n (below 256 (λ k. eqb (again k) k) tt n h)
 
 -- ---- a check sum and the two bytes d14 and d15, high byte first
 

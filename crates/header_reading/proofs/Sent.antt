@@ -1,22 +1,22 @@
--- A header that may be sent is read back from its bytes.
-use mathlib.Core.Path.{_≡_, refl}
+-- A header that may be sent is read back from its bytes, whatever the reserved bits in them.
+use mathlib.Core.Path.{_≡_}
 use mathlib.Core.Bool.{true, and-eq-true-iff}
-use Prim.Native.Nat.{ℕ, _+_, _/_, _%_, _<_}
+use mathlib.Core.List.{List}
+use Prim.Native.Nat.{ℕ, _/_, _%_, _<_}
 use native.Mathlib.Omega.{arith}
 use borrow.Author.Tests.{ltb-true, lt-ltb}
-use lib.Dec.{lit<}
 use Rattle.crc.specs.Crc.{crc-16}
 use Rattle.basics.specs.Numbers.{fitsBits, highFirst}
 use Rattle.lent.specs.Refusals.{firstOf}
 use Rattle.fast_channel.specs.FastChannel.{opcodeOf, payloadOf, messageFits}
-use Rattle.header.specs.Header.{flagsByte, channelByte, fieldBytes, headerBytes, rxfnRule, fieldsFit, headerFits}
-use Rattle.header_reading.specs.Reading.{fieldsOf, headerOf, sumHolds, reservedOnes, rulesHold, headerTable}
+use Rattle.header.specs.Header.{ReservedBits, allOnes, flagsByte, secondsByte, channelByte, fieldBytesWith, headerBytes, headerBytesWith, rxfnRule, fieldsFit, headerFits}
+use Rattle.header_reading.specs.Reading.{fieldsOf, headerOf, reservedIn, sumHolds, rulesHold, headerTable}
 use Rattle.fast_channel.specs.declared.FastChannel.{FastChannel}
 use Rattle.header.specs.declared.Header.{Header}
 use Rattle.basics.proofs.Numbers.{number-of-bytes}
 use Rattle.basics.proofs.Tests.{same-self}
 use Rattle.fast_channel.proofs.Channel.{message-back, rule-kept, payload-lt, opcode-lt}
-use Rattle.header_reading.proofs.Bits.{d4-ack, d4-valid, d4-kind, d4-lt, from-top}
+use Rattle.header_reading.proofs.Bits.{d4-reserved, d4-ack, d4-valid, d4-kind}
 
 -- what a header that may be sent has, field by field
 pub record Sendable (header : Header) : Type 0 where
@@ -61,62 +61,65 @@ fits-header header s =
     ) (s .message)
 
 -- d11, of a message that fits
-module _ (applies : ℕ) (message : FastChannel) (applies-lt : applies < 8) (fit : messageFits message ≡ true) where
-  d11-applies : channelByte applies message / 16 % 8 ≡ applies
+module _ (reserved applies : ℕ) (message : FastChannel) (applies-lt : applies < 8) (fit : messageFits message ≡ true) where
+  d11-applies : channelByte reserved applies message / 16 % 8 ≡ applies
   d11-applies = omega (arith, opcode-lt message fit)
 
-  d11-opcode : channelByte applies message % 16 ≡ opcodeOf message
+  d11-opcode : channelByte reserved applies message % 16 ≡ opcodeOf message
   d11-opcode = omega (arith, opcode-lt message fit)
 
-d10-seconds : (seconds : ℕ) → seconds < 64 → (192 + seconds % 64) % 64 ≡ seconds
-d10-seconds seconds h = omega arith
+d10-seconds : (reserved seconds : ℕ) → seconds < 64 → secondsByte reserved seconds % 64 ≡ seconds
+d10-seconds reserved seconds h = omega arith
 
-module _ (header : Header) (s : Sendable header) where
-  pub header-back : headerOf (headerBytes header) ≡ header
-  unfolding headerOf fieldsOf headerBytes fieldBytes
+module _ (reserved : ReservedBits) (header : Header) (s : Sendable header) where
+  abbrev bytes : List ℕ
+  bytes = headerBytesWith reserved header
+
+  pub header-back : headerOf bytes ≡ header
+  unfolding headerOf fieldsOf headerBytesWith fieldBytesWith
   header-back =
       let f = header .fields in
       rw (
         number-of-bytes 2 (header .txfn .0) (s .txfn-lt),
-        d4-kind (f .ack) (f .valid) (header .kind),
+        d4-kind (reserved .d4) (f .ack) (f .valid) (header .kind),
         number-of-bytes 2 (f .rxfn .0) (s .rxfn-lt),
-        d4-ack (f .ack) (f .valid) (header .kind),
-        d4-valid (f .ack) (f .valid) (header .kind),
+        d4-ack (reserved .d4) (f .ack) (f .valid) (header .kind),
+        d4-valid (reserved .d4) (f .ack) (f .valid) (header .kind),
         number-of-bytes 5 (f .stamp) (s .stamp-lt),
-        d10-seconds (f .seconds) (s .seconds-lt),
-        d11-applies (f .applies) (f .message) (s .applies-lt) (s .message),
-        d11-opcode (f .applies) (f .message) (s .applies-lt) (s .message),
+        d10-seconds (reserved .d10) (f .seconds) (s .seconds-lt),
+        d11-applies (reserved .d11) (f .applies) (f .message) (s .applies-lt) (s .message),
+        d11-opcode (reserved .d11) (f .applies) (f .message) (s .applies-lt) (s .message),
         number-of-bytes 2 (payloadOf (f .message)) (payload-lt (f .message) (s .message)),
         message-back (f .message) (s .message),
       )
 
-  sum-back : sumHolds (headerBytes header) ≡ true
-  unfolding sumHolds headerBytes fieldBytes
-  sum-back = same-self (highFirst 2 (crc-16 (fieldBytes header)))
+  sum-back : sumHolds bytes ≡ true
+  unfolding sumHolds headerBytesWith fieldBytesWith
+  sum-back = same-self (highFirst 2 (crc-16 (fieldBytesWith reserved header)))
 
-  ones-sent : reservedOnes (headerBytes header) ≡ true
-  unfolding reservedOnes headerBytes fieldBytes
-  ones-sent =
-      let f = header .fields in
-      rw (
-        from-top 4 240 (flagsByte (f .ack) (f .valid) (header .kind)) refl (lit< tt) (omega arith) (d4-lt (f .ack) (f .valid) (header .kind)),
-        from-top 2 192 (192 + f .seconds % 64) refl (lit< tt) (omega arith) (omega arith),
-        from-top 1 128 (channelByte (f .applies) (f .message)) refl (lit< tt) (omega arith) (omega arith),
-      )
-
-  rules-back : rulesHold (headerBytes header) ≡ true
-  unfolding rulesHold fieldsOf headerBytes fieldBytes
+  rules-back : rulesHold bytes ≡ true
+  unfolding rulesHold fieldsOf headerBytesWith fieldBytesWith
   rules-back =
       let f = header .fields in
       rw (
-        d4-valid (f .ack) (f .valid) (header .kind),
+        d4-valid (reserved .d4) (f .ack) (f .valid) (header .kind),
         number-of-bytes 2 (f .rxfn .0) (s .rxfn-lt),
         s .rule,
-        d11-opcode (f .applies) (f .message) (s .applies-lt) (s .message),
+        d11-opcode (reserved .d11) (f .applies) (f .message) (s .applies-lt) (s .message),
         number-of-bytes 2 (payloadOf (f .message)) (payload-lt (f .message) (s .message)),
       )
       (rule-kept (f .message) (s .message))
 
-  pub none-refused : firstOf (headerTable (headerBytes header)) ≡ 0
+  pub none-refused : firstOf (headerTable bytes) ≡ 0
   unfolding firstOf
-  none-refused = rw (sum-back, ones-sent, rules-back)
+  none-refused = rw (sum-back, rules-back)
+
+-- what is sent has ones
+pub ones-sent : (header : Header) → reservedIn (headerBytes header) ≡ allOnes
+unfolding reservedIn headerBytesWith fieldBytesWith
+ones-sent header =
+    let f = header .fields in
+    let d4 : flagsByte 15 (f .ack) (f .valid) (header .kind) / 16 ≡ 15 = d4-reserved 15 (f .ack) (f .valid) (header .kind) in
+    let d10 : secondsByte 3 (f .seconds) / 64 ≡ 3 = omega arith in
+    let d11 : channelByte 1 (f .applies) (f .message) / 128 ≡ 1 = omega arith in
+    rw (d4, d10, d11)

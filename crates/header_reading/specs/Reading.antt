@@ -5,13 +5,13 @@ use mathlib.Core.List.{List, [], _∷_}
 use mathlib.Core.Path.{_≡_}
 use Prim.Native.Nat.{ℕ, _/_, _%_}
 use lib.Dec.{eqb}
-use lib.ListN.{length, getD, take, drop, replicate}
+use lib.ListN.{length, getD, take, drop}
 use Rattle.basics.specs.Lists.{same}
-use Rattle.basics.specs.Numbers.{digit, bits, highFirst, numberAt}
+use Rattle.basics.specs.Numbers.{digit, highFirst, numberAt}
 use Rattle.lent.specs.Refusals.{Row, _unless_, firstOf, answerBy}
 use Rattle.crc.specs.Crc.{crc-16}
 use Rattle.fast_channel.specs.FastChannel.{messageOf, payloadRule}
-use Rattle.header.specs.Header.{rxfnRule}
+use Rattle.header.specs.Header.{ReservedBits, rxfnRule}
 use Rattle.header.specs.declared.FrameKind.{FrameKind}
 use Rattle.header.specs.declared.FrameKind.the-variants.{Idle, Data, Type2, Type3}
 use Rattle.header.specs.declared.Fields.{Fields}
@@ -46,35 +46,30 @@ fieldsOf d = record {
 unfoldable pub headerOf : List ℕ → Header
 headerOf d = record { txfn = record { 0 = numberAt 0 2 d }; kind = kindOf (getD d 4 0 % 4); fields = fieldsOf d }
 
+-- the reserved bits, which are of either value (02, M-100)
+unfoldable pub reservedIn : List ℕ → ReservedBits
+reservedIn d = record { d4 = getD d 4 0 / 16; d10 = getD d 10 0 / 64; d11 = getD d 11 0 / 128 }
+
 -- ---- what is refused
 
--- d14 and d15 are the CRC-16 of the bytes before them, high byte first
+-- d14 and d15 are the CRC-16 of the bytes before them as they came, high byte first
 unfoldable pub sumHolds : List ℕ → Bool
 sumHolds d = same (drop 14 d) (highFirst 2 (crc-16 (take 14 d)))
-
--- the n top bits of a byte are 1
-unfoldable pub topOnes : ℕ → ℕ → Bool
-topOnes n byte = same (take n (bits 8 byte)) (replicate n 1)
-
--- the reserved bits: four at the top of d4, two of d10, one of d11
-unfoldable pub reservedOnes : List ℕ → Bool
-reservedOnes d = topOnes 4 (getD d 4 0) && topOnes 2 (getD d 10 0) && topOnes 1 (getD d 11 0)
 
 -- no field is against its rule
 unfoldable pub rulesHold : List ℕ → Bool
 rulesHold d = rxfnRule (fieldsOf d .valid) (fieldsOf d .rxfn .0) && payloadRule (opcodeIn d) (payloadIn d)
 
--- 9: the CRC-16 differs. 10: a reserved bit is 0. 11: a received field is against its rule.
+-- 9: the CRC-16 differs. 11: a received field is against its rule. 10 is never given: its number is empty since 02, M-100.
 abbrev pub headerTable : List ℕ → List Row
 headerTable d =
     9 unless sumHolds d
-    ∷ 10 unless reservedOnes d
     ∷ 11 unless rulesHold d
     ∷ []
 
 -- ---- read_header
 
--- 2: there are not exactly 16 bytes. Then 9, 10 and 11 by what they hold.
+-- 2: there are not exactly 16 bytes. Then 9 and 11 by what they hold.
 abbrev pub readTable : List ℕ → List Row
 readTable bytes = 2 unless eqb (length bytes) 16 ∷ headerTable bytes
 

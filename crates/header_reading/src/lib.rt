@@ -11,8 +11,7 @@ ghost use Prim.Native.Nat.{_+_, _*_, _≤_};
 ghost use lib.ListN.{length};
 ghost use Rattle.basics.specs.Numbers.{numberAt};
 ghost use Rattle.lent.specs.Refusals.{firstOf};
-ghost use Rattle.header_reading.specs.Reading.{kindOf, fieldsOf, headerOf, sumHolds, reservedOnes, rulesHold};
-ghost use Rattle.header_reading.specs.Reading.{headerTable, readRefusal, ReadHeaderOutcome};
+ghost use Rattle.header_reading.specs.Reading.{kindOf, fieldsOf, headerOf, sumHolds, rulesHold, headerTable, readRefusal, ReadHeaderOutcome};
 
 pub enum ReadAnswer {
     Read(Header),
@@ -66,19 +65,6 @@ fn sum_holds(bytes: &[u8]) -> bool
     sum == two_bytes(bytes[15], bytes[14])
 }
 
-fn reserved_ones(bytes: &[u8]) -> bool
-    requires { ⌜ length (now bytes) ≡ 16 ⌝ }
-    ensures { λ r. ⌜ r ≡ reservedOnes (now (bytes .entry)) ⌝ }
-{
-    if bytes[4] < 0xF0 {
-        return false;
-    }
-    if bytes[10] < 0xC0 {
-        return false;
-    }
-    0x80 <= bytes[11]
-}
-
 fn rules_hold(bytes: &[u8]) -> bool
     requires { ⌜ length (now bytes) ≡ 16 ⌝ }
     ensures { λ r. ⌜ r ≡ rulesHold (now (bytes .entry)) ⌝ }
@@ -93,19 +79,15 @@ fn rules_hold(bytes: &[u8]) -> bool
     fast_channel::payload_rule(opcode, payload)
 }
 
-// 9, 10 or 11 where the 16 bytes are refused, and 0 where they are read.
+// 9 or 11 where the 16 bytes are refused, and 0 where they are read, whatever their reserved bits.
 pub fn header_refusal(bytes: &[u8]) -> u8
     requires { ⌜ length (now bytes) ≡ 16 ⌝ }
     ensures { λ r. ⌜ r ≡ firstOf (headerTable (now (bytes .entry))) ⌝ }
 {
     let sum = sum_holds(bytes);
-    let ones = reserved_ones(bytes);
     let rules = rules_hold(bytes);
     if !sum {
         return 9;
-    }
-    if !ones {
-        return 10;
     }
     if rules { 0 } else { 11 }
 }
@@ -148,7 +130,7 @@ fn read_refusal(bytes: &[u8]) -> u8
     header_refusal(bytes)
 }
 
-// Reads a header from exactly 16 bytes. Refusals: 2, 9, 10, 11.
+// Reads a header from exactly 16 bytes. Refusals: 2, 9, 11.
 pub fn read_header(bytes: &[u8]) -> ReadAnswer
     ensures { λ r. ⌜ ReadHeaderOutcome (now (bytes .entry)) r ⌝ }
 {

@@ -1,4 +1,4 @@
--- A frame that is accepted is the one that is built of what was read from it.
+-- A frame that is accepted is the one that is built of what was read from it, with the reserved bits that came.
 use mathlib.Core.Path.{_≡_, sym, ap, ap₂, _∙_}
 use mathlib.Core.Bool.{true}
 use mathlib.Core.List.{List, _++_}
@@ -17,12 +17,16 @@ use Rattle.reed_solomon.proofs.Laws.{parity-zeros, true-codeword, of-shorter}
 use Rattle.reed_solomon.proofs.Interleaved.{true-codewords, codewords-coded}
 use Rattle.scrambler.specs.Scrambler.{scrambled}
 use Rattle.scrambler.proofs.Laws.{scrambled-twice, scrambled-bytes}
-use Rattle.header.specs.Header.{headerBytes, headerFits}
-use Rattle.header_reading.specs.Reading.{headerOf}
+use Rattle.header.specs.Header.{ReservedBits, headerBytesWith, headerFits}
+use Rattle.header_reading.specs.Reading.{headerOf, reservedIn}
 use Rattle.header_reading.proofs.Received.{received-fits, header-again}
-use Rattle.frame.specs.Frame.{codedHeader, areaCheck, areaPayload, frameBytes}
+use Rattle.frame.specs.Frame.{codedHeaderWith, areaCheck, areaPayload, frameBytesWith}
 use Rattle.opening.specs.Opening.{unscrambled, headerPart, areaPart, areaChecked, frameTable, openedHeader, openedArea}
 use Rattle.opening.proofs.Laws.{Passed, frame-passed, unscrambled-length}
+
+-- the reserved bits that came
+abbrev pub openedReserved : ℕ → List ℕ → ReservedBits
+openedReserved taps frame = reservedIn (headerPart (unscrambled taps frame))
 
 module _ (taps : ℕ) (frame : List ℕ) (bytes : Bytes frame) (long : length frame ≡ 2081) (none : firstOf (frameTable taps frame) ≡ 0) where
   abbrev body : List ℕ
@@ -44,7 +48,10 @@ module _ (taps : ℕ) (frame : List ℕ) (bytes : Bytes frame) (long : length fr
   header-bytes : Bytes (headerPart body)
   header-bytes = bytes-take 16 body body-bytes
 
-  header-is : headerBytes (headerOf (headerPart body)) ≡ headerPart body
+  abbrev again : List ℕ
+  again = headerBytesWith (openedReserved taps frame) (headerOf (headerPart body))
+
+  header-is : again ≡ headerPart body
   header-is = header-again (headerPart body) header-bytes header-length (passed .header-read)
 
   -- ---- the two words
@@ -55,11 +62,11 @@ module _ (taps : ℕ) (frame : List ℕ) (bytes : Bytes frame) (long : length fr
   word-front : take 16 (take 32 body) ≡ headerPart body
   word-front = take-take 16 32 body (lit≤ tt)
 
-  header-coded : codedHeader (headerOf (headerPart body)) ≡ take 32 body
-  unfolding codedHeader
+  header-coded : codedHeaderWith (openedReserved taps frame) (headerOf (headerPart body)) ≡ take 32 body
+  unfolding codedHeaderWith
   header-coded =
       ap₂ (λ (a b : List ℕ). a ++ b) (header-is ∙ sym word-front)
-      (parity-zeros 223 (headerBytes (headerOf (headerPart body))) ∙ ap parity (header-is ∙ sym word-front)
+      (parity-zeros 223 again ∙ ap parity (header-is ∙ sym word-front)
       ∙ of-shorter (take 32 body) 16 (sym word-length) (omega (arith, word-length)) (true-codeword (lengthened (take 32 body)) (passed .header-word)))
       ∙ take-append-drop 16 (take 32 body)
 
@@ -74,8 +81,8 @@ module _ (taps : ℕ) (frame : List ℕ) (bytes : Bytes frame) (long : length fr
       ∙ ap codedPayload (sym (take-add 1908 4 (drop 32 body)))
       ∙ sym (codewords-coded (drop 32 body) (true-codewords (drop 32 body) (passed .payload-words)))
 
-  pub accepted-frame : frame ≡ frameBytes taps (openedHeader taps frame) (openedArea taps frame)
-  unfolding frameBytes openedHeader openedArea unscrambled
+  pub accepted-frame : frame ≡ frameBytesWith taps (openedReserved taps frame) (openedHeader taps frame) (openedArea taps frame)
+  unfolding frameBytesWith openedHeader openedArea unscrambled
   accepted-frame =
       sym (take-append-drop 9 frame)
       ∙ ap₂ (λ (a b : List ℕ). a ++ b) (passed .begins)

@@ -1,4 +1,4 @@
--- What opening a frame does: the refusals 1, 2 and 7 to 13, and the header and the area of a frame that is accepted (01, "Refusal numbers").
+-- What opening a frame does: the refusals 1, 2, 7 to 9 and 11 to 13, and the header and the area of a frame that is accepted (01, "Refusal numbers").
 use mathlib.Core.Path.{_≡_}
 use mathlib.Core.Bool.{Bool, _&&_}
 use mathlib.Core.List.{List, [], _∷_, _++_}
@@ -33,7 +33,7 @@ areaPart body = take areaSize (drop 32 body)
 unfoldable pub areaChecked : List ℕ → Bool
 areaChecked body = same (take 4 (drop (32 + areaSize) body)) (areaCheck (areaPart body))
 
--- what is asked of those bytes. 8: the coded header, with the zeros that are not sent, is no codeword. 9 to 11: of the header's 16 bytes.
+-- what is asked of those bytes. 8: the coded header, with the zeros that are not sent, is no codeword. 9 and 11: of the header's 16 bytes.
 -- 12: one of the eight payload words is no codeword. 13: the CRC-32 differs.
 abbrev pub bodyTable : List ℕ → List Row
 bodyTable body =

@@ -15,7 +15,7 @@ pub enum OpenAnswer {
     Refused(u8),
 }
 
-// Opens a frame: answers its header, and writes its area to the front of a buffer of at least 1,908 bytes. Refusals: 1, 2, 7 to 13.
+// Opens a frame: answers its header, and writes its area to the front of a buffer of at least 1,908 bytes. Refusals: 1, 2, 7 to 9, 11 to 13.
 pub fn open(taps: u32, frame: &[u8], area: &mut [u8]) -> OpenAnswer
     ensures { λ r. ⌜ OpenOutcome taps (now (frame .entry)) (now (area .entry)) r (now (area .exit)) ⌝ }
 {

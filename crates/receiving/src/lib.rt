@@ -50,7 +50,7 @@ fn with_header(header: Header, answer: ApplyAnswer) -> ReceiveAnswer
     }
 }
 
-// Receives a frame: it is opened, then applied. Refusals: 1, 2, 3, 7 to 15.
+// Receives a frame: it is opened, then applied. Refusals: 1, 2, 3, 7 to 9, 11 to 15.
 pub fn receive(
     taps: u32,
     frame: &[u8],

@@ -1,10 +1,10 @@
 -- What a frame carries, and what building it does to the queue that the bytes stand for (demand 3).
 use mathlib.Core.Path.{_≡_, refl, sym, ap, subst, _∙_}
 use mathlib.Core.Bool.{true, cond}
-use mathlib.Core.List.{List, _++_}
+use mathlib.Core.List.{List}
 use Prim.Native.Nat.{ℕ, suc, _+_, _%_}
 use native.Mathlib.Omega.{arith}
-use lib.ListN.{length, take, length-append}
+use lib.ListN.{length, take}
 use borrow.Author.Tests.{lt-ltb}
 use Rattle.basics.specs.Lists.{Bytes}
 use Rattle.basics.specs.Numbers.{fitsBits}
@@ -19,14 +19,13 @@ use Rattle.link.specs.Parsing.{parse}
 use Rattle.link.proofs.RoundTrip.{parse-queue, parse-back}
 use Rattle.packing.proofs.Filling.{fill-queue}
 use Rattle.packing.proofs.Bench.{bench, area-length}
-use Rattle.header.specs.Header.{headerFits, fieldsFit}
+use Rattle.header.specs.Header.{allOnes, headerFits, fieldsFit}
 use Rattle.header.specs.declared.Fields.{Fields}
 use Rattle.header.specs.declared.FrameKind.{FrameKind}
 use Rattle.header.specs.declared.FrameKind.the-variants.{Idle, Data}
 use Rattle.header.specs.declared.Header.{Header}
-use Rattle.frame.specs.Frame.{preamble, codedHeader, areaPayload, frameBytes}
-use Rattle.frame.proofs.Laws.{body-length}
-use Rattle.scrambler.specs.Scrambler.{scrambled}
+use Rattle.frame.specs.Frame.{frameBytes}
+use Rattle.frame.proofs.Laws.{frame-length}
 use Rattle.ring.specs.Ring.{roundFrom, ringWritten}
 use Rattle.ring.proofs.Laws.{ring-bytes, ring-read}
 use Rattle.marks.specs.Queue.{usedIn, waitingIn, startAfter}
@@ -46,11 +45,6 @@ pub record Carries (taps : ℕ) (frame : List ℕ) (number : ℕ) (opened : Open
   pub kind-is : header .kind ≡ cond (opened .isData) Data Idle
   pub long : length (opened .area) ≡ 1908
   pub coded : frame ≡ frameBytes taps header (opened .area)
-
-frame-length : (taps : ℕ) (header : Header) (area : List ℕ) → length area ≡ 1908 → length (frameBytes taps header area) ≡ 2081
-unfolding frameBytes
-frame-length taps header area long =
-    length-append preamble (scrambled taps (codedHeader header ++ areaPayload area)) ∙ ap (λ (n : ℕ). 9 + n) (body-length taps header area long)
 
 module _ (taps : ℕ) (fields : Fields) (sender : Sender) (bytes out : List ℕ) (sender′ : Sender) (kind : FrameKind) (bytes′ out′ : List ℕ) (i : ℕ) where
   -- the queue that the bytes stand for
@@ -79,7 +73,7 @@ module _ (taps : ℕ) (fields : Fields) (sender : Sender) (bytes out : List ℕ)
           counted = count;
           kind-is = refl;
           long = long;
-          coded = ap (take 2081) frame ∙ written-front out (frameBytes taps header (areaFor queue)) 2081 (frame-length taps header (areaFor queue) long);
+          coded = ap (take 2081) frame ∙ written-front out (frameBytes taps header (areaFor queue)) 2081 (frame-length allOnes header taps (areaFor queue) long);
         }
 
     remains : Stands bytes′ sender′ (suc i) (leftIn queue)

@@ -71,7 +71,7 @@ pub extern "C" fn taqwelim_fresh_receiver() -> FlatReceiver
     states::flat_receiver(Receiver::fresh())
 }
 
-// Refusals: 1, 2, 3, 7 to 15.
+// Refusals: 1, 2, 3, 7 to 9, 11 to 15.
 #[no_mangle]
 pub extern "C" fn taqwelim_receive(
     taps: u32,
@@ -111,7 +111,7 @@ pub extern "C" fn taqwelim_code_header(header: FlatHeader, out: &mut [u8]) -> Fl
     flat::flat_code(answer)
 }
 
-// Refusals: 2, 9, 10, 11.
+// Refusals: 2, 9, 11.
 #[no_mangle]
 pub extern "C" fn taqwelim_read_header(bytes: &[u8]) -> FlatRead
     ensures { λ r. ⌜ ReadCall (now (bytes .entry)) r ⌝ }

@@ -42,7 +42,10 @@ pub fn outcome(
     if kind < 33 {
         return code_trials::kinds::outcome(kind, body);
     }
-    sender_trials::kinds::outcome(kind, body, queue, at_hand)
+    if kind < 34 {
+        return sender_trials::kinds::outcome(kind, body, queue, at_hand);
+    }
+    frame_trials::kinds::outcome(kind, body, at_hand)
 }
 
 // The lines of all kinds, whose numbers are these and so much more.
@@ -67,7 +70,7 @@ fn print_rows(tally: Tally, more: u64)
         28 + more,
         b"parity, plain form\ncodeword judged, plain form\npayload coded, plain form\npayload judged, plain form\nbytes scrambled, plain form\n",
     );
-    tally.print_kinds(33 + more, b"waiting counted\n");
+    tally.print_kinds(33 + more, b"waiting counted\nframe changed\n");
 }
 
 pub fn print(tally: Tally) {

@@ -1,5 +1,5 @@
 -- Coding the header and writing the frame of it is `frameBytes`, by what `coded_header` and `write_frame` ensure.
-use Rattle.frame.specs.Frame.{frameBytes}
+use Rattle.frame.specs.Frame.{frameBytesWith}
 use borrow.Author.Needs.{needs}
 use Rattle.frame.proofs.build.Statement.{statement}
 use Rattle.frame.proofs.build.Tie as tie
@@ -17,7 +17,7 @@ same-length : tie.Need-same-length
 same-length c = search needs
 
 returns : tie.Need-returns
-unfolding frameBytes
+unfolding frameBytesWith
 returns c = simp (c .before .before .write-frame .ensures, c .before .before .before .before .before .coded-header .ensures)
 
 pub build-spec : {M : Type 1} → statement M

@@ -6,6 +6,7 @@ use Rattle.lent.proofs.Refusals.{refused, kept, accepted}
 use Rattle.lent.specs.Written.{written}
 use Rattle.header.proofs.Calls.{code-length}
 use Rattle.lent.proofs.Written.{written-whole}
+use Rattle.header.specs.Header.{allOnes}
 use Rattle.header.proofs.Bytes.{header-length}
 use Rattle.header.specs.declared.CodeAnswer.the-variants.{Refused}
 use borrow.Author.Needs.{needs}
@@ -39,7 +40,7 @@ write-at-requires c κs =
     let at-args = c .before .before .before .before .before .before .before .args in
     let at-code-refusal = c .before .before .before .before .code-refusal in
     let at-if1 = c .before .before .before .if1 in
-    omega (arith, ap length (at-header-bytes .ensures) ∙ header-length (at-args .header), code-length _ _ (sym (at-code-refusal .ensures) ∙ at-if1 .left))
+    omega (arith, ap length (at-header-bytes .ensures) ∙ header-length allOnes (at-args .header), code-length _ _ (sym (at-code-refusal .ensures) ∙ at-if1 .left))
 
 same-length-2 : tie.Need-same-length-2
 same-length-2 c = search needs
@@ -57,7 +58,7 @@ returns-2 c =
       bytes = accepted _ _ _ _ _ (at-code-refusal .ensures) (at-if1 .left)
           (at-write-at .ensures
           ∙ ap (written (at-args .out .now) 0) (at-header-bytes .ensures)
-          ∙ written-whole _ _ (header-length (at-args .header) ∙ sym sized));
+          ∙ written-whole _ _ (header-length allOnes (at-args .header) ∙ sym sized));
     }
 
 pub code-header-spec : {M : Type 1} → statement M

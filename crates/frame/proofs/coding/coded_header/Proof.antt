@@ -4,7 +4,7 @@ use mathlib.Core.List.{_++_}
 use Rattle.reed_solomon.specs.Code.{parity}
 use Rattle.reed_solomon.proofs.Laws.{parity-zeros}
 use Rattle.header.specs.Header.{headerBytes}
-use Rattle.frame.specs.Frame.{codedHeader}
+use Rattle.frame.specs.Frame.{codedHeaderWith}
 use borrow.Author.Needs.{needs}
 use Rattle.frame.proofs.coding.coded_header.Statement.{statement}
 use Rattle.frame.proofs.coding.coded_header.Tie as tie
@@ -19,7 +19,7 @@ with-parity-requires : tie.Need-with-parity-requires
 with-parity-requires c κs = search needs
 
 returns : tie.Need-returns
-unfolding codedHeader
+unfolding codedHeaderWith
 returns c =
     let bytes = headerBytes (c .before .before .before .args .header) in
     c .with-parity .ensures ∙ ap (λ l. l ++ parity l) (c .before .before .header-bytes .ensures) ∙ ap (λ l. bytes ++ l) (sym (parity-zeros 223 bytes))

@@ -1,6 +1,6 @@
 -- Byte by byte: the code divides once by a power of 256, `lowFirst` by 256 again and again (`div-div-eq-div-mul`).
 use native.Mathlib.Nat.{div-one, div-div-eq-div-mul}
-use Rattle.header.specs.Header.{fieldBytes}
+use Rattle.header.specs.Header.{fieldBytesWith}
 use borrow.Author.Needs.{needs}
 use Rattle.header.proofs.coding.field_bytes.Statement.{statement}
 use Rattle.header.proofs.coding.field_bytes.Tie as tie
@@ -47,8 +47,8 @@ byte-requires-8 c κs = search needs
 byte-requires-9 : tie.Need-byte-requires-9
 byte-requires-9 c κs = search needs
 
-add-t21 : tie.Need-add-t21
-add-t21 c = search needs
+seconds-byte-requires : tie.Need-seconds-byte-requires
+seconds-byte-requires c κs = search needs
 
 channel-byte-requires : tie.Need-channel-byte-requires
 channel-byte-requires c κs = search needs
@@ -60,7 +60,7 @@ byte-requires-11 : tie.Need-byte-requires-11
 byte-requires-11 c κs = search needs
 
 returns : tie.Need-returns
-unfolding fieldBytes
+unfolding fieldBytesWith
 returns c =
     let at-byte = c .before .before .before .before .before .before .before .before .before .before .before .before .before .byte in
     let at-byte2 = c .before .before .before .before .before .before .before .before .before .before .before .before .byte2 in
@@ -74,6 +74,7 @@ returns c =
     let at-byte10 = c .before .byte10 in
     let at-byte11 = c .byte11 in
     let at-flags-byte = c .before .before .before .before .before .before .before .before .before .flags-byte in
+    let at-seconds-byte = c .before .before .before .seconds-byte in
     let at-channel-byte = c .before .before .channel-byte in
     let at-payload = c .before .before .before .before .before .before .before .before .before .before .before .before .before .before .payload in
     simp (
@@ -89,6 +90,7 @@ returns c =
       at-byte10 .ensures,
       at-byte11 .ensures,
       at-flags-byte .ensures,
+      at-seconds-byte .ensures,
       at-channel-byte .ensures,
       at-payload .ensures,
       div-one,
@@ -113,7 +115,7 @@ field-bytes-spec =
     byte-requires-7
     byte-requires-8
     byte-requires-9
-    add-t21
+    seconds-byte-requires
     channel-byte-requires
     byte-requires-10
     byte-requires-11

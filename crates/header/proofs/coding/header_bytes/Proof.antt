@@ -8,7 +8,7 @@ use Rattle.basics.specs.Lists.{zeros}
 use Rattle.lent.specs.Written.{written}
 use Rattle.header.proofs.Bytes.{fields-length}
 use Rattle.lent.proofs.Written.{written-parts}
-use Rattle.header.specs.Header.{headerBytes}
+use Rattle.header.specs.Header.{allOnes, headerBytes, headerBytesWith}
 use borrow.Author.Needs.{needs}
 use Rattle.header.proofs.coding.header_bytes.Statement.{statement}
 use Rattle.header.proofs.coding.header_bytes.Tie as tie
@@ -50,7 +50,7 @@ write-at-requires-2 : tie.Need-write-at-requires-2
 write-at-requires-2 c κs = search needs
 
 returns : tie.Need-returns
-unfolding headerBytes
+unfolding headerBytesWith
 returns c =
     let at-byte = c .before .before .before .before .before .before .before .before .before .byte in
     let at-byte2 = c .before .before .before .before .before .before .before .before .byte2 in
@@ -64,7 +64,7 @@ returns c =
     let joined : fields ++ check ≡ headerBytes (at-args .header) =
     simp (at-byte .ensures, at-byte2 .ensures, div-one, at-crc-16 .ensures, at-field-bytes .ensures) in
     at-write-at2 .ensures ∙ ap (λ l. written l 14 check) (at-write-at .ensures)
-    ∙ written-parts (zeros 16) fields check 14 (ap length (at-field-bytes .ensures) ∙ fields-length (at-args .header)) refl ∙ joined
+    ∙ written-parts (zeros 16) fields check 14 (ap length (at-field-bytes .ensures) ∙ fields-length allOnes (at-args .header)) refl ∙ joined
 
 pub header-bytes-spec : {M : Type 1} → statement M
 header-bytes-spec =
