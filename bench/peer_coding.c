@@ -108,8 +108,6 @@ int peer_open(uint32_t taps, const uint8_t frame[FRAME], uint8_t header[14], uin
         return 8;
     if (crc_16(body, 14) != (body[14] << 8 | body[15]))
         return 9;
-    if ((body[4] & 0xF0) != 0xF0 || (body[10] & 0xC0) != 0xC0 || (body[11] & 0x80) != 0x80)
-        return 10;
     if (!(body[4] & 4) && (body[2] | body[3]) != 0)
         return 11;
     int opcode = body[11] & 15, fast = body[12] | body[13] << 8;

@@ -235,10 +235,10 @@ typedef struct taqwelim_receive_answer {
     uint8_t refusal;
 } taqwelim_receive_answer;
 
-/* Receives a frame of 2,081 bytes. The packets that it completes are written to the list from its byte 0 on, to be read
- * by taqwelim_entry over exactly `listed` bytes; the begun part of a packet is kept at the front of the hold. All other
- * bytes of both keep their values. A refused frame leaves everything as it was, the number expected too: it will count
- * as missing.
+/* Receives a frame of 2,081 bytes, whatever its reserved bits. The packets that it completes are written to the list
+ * from its byte 0 on, to be read by taqwelim_entry over exactly `listed` bytes; the begun part of a packet is kept at
+ * the front of the hold. All other bytes of both keep their values. A refused frame leaves everything as it was, the
+ * number expected too: it will count as missing.
  * Refuses: 1 the taps; 2 frame_length is not 2,081, hold_length not 9,000, or list_length under 10,907; 3 the numbers
  * of receiver are no state; 7 to 9 and 11 to 15 what the frame holds. */
 TAQWELIM_NO_DISCARD

@@ -86,8 +86,8 @@ def header_records():
 
 
 def frame_records():
-    """One is said to be refused with 0 and is opened: only what was lent for its area tells. The frame at hand is changed
-    in nothing, since each record of it is wrong in its digest."""
+    """One is said to be refused with 0 and is opened: only what was lent for its area tells. The records of kind 34 change
+    nothing, so that the frame at hand stays; each is wrong in its digest."""
     numbers = Numbers(30)
     sent = Sent(BENCH_TAPS, some_header(numbers, frames.DATA, 1), numbers.bytes(30))
     built, opened = whole(sent, AREA)

@@ -201,7 +201,7 @@ class Passage:
         next part may be joined to what was held, and pass 9,000."""
         frame = self.at_hand
         if self.numbers.below(8) == 0:
-            frame = with_reserved(self.taps, frame, self.numbers.below(128))
+            frame = with_reserved(self.taps, frame, self.numbers.below(frames.ALL_ONES + 1))
         most, own = self.most_held(), self.arrivals.receiver
         is_15 = most is not None and own.expected in (None, self.header.txfn) and own.held > most
         return self.arrives(frame, 15 if is_15 else 0)

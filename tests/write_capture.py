@@ -157,9 +157,9 @@ def past_the_last_number(bench):
 
 
 def other_reserved_bits(bench):
-    """A packet of another maker's terminal, which clears the reserved bits, one by one and all (02, M-100)."""
+    """Packets of another maker's terminal, which clears the reserved bits, all and one by one (02, M-100)."""
     bench.put(9000, 5, 4000)
-    for reserved in [*(127 - 2**bit for bit in range(7)), 0]:
+    for reserved in [0, *(frames.ALL_ONES - 2**bit for bit in range(7))]:
         bench.arrived.append(with_reserved(BENCH_TAPS, bench.next(), reserved))
 
 

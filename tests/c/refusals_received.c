@@ -102,8 +102,6 @@ static void receive(void)
     forge(0x0772, 0xFD, 0xFB, 0, 0, 0), receive_refused(TAQWELIM_REFUSED_TOO_LONG, taps, 2081, holds, 9000, 10907);
 }
 
-/* The seven reserved bits are the sender's duty: every choice of them is read as the same header, bare and in a frame. With the check sum of the ones all
- * others are refused. */
 static void with_reserved(uint8_t *d, unsigned choice)
 {
     d[4] = (uint8_t)((d[4] & 0x0F) | (choice >> 3) << 4);
@@ -111,6 +109,8 @@ static void with_reserved(uint8_t *d, unsigned choice)
     d[11] = (uint8_t)((d[11] & 0x7F) | (choice & 1) << 7);
 }
 
+/* The seven reserved bits are the sender's duty: every choice of them is read as the same header, bare and in a frame. With the check sum of the ones all
+ * others are refused. */
 static void reserved_bits(void)
 {
     taqwelim_header header = {good_fields(), 7, TAQWELIM_KIND_DATA}, found;
@@ -131,8 +131,8 @@ static void reserved_bits(void)
         set_bytes(&frame, 0, whole, sizeof whole);
         expect(both_receive(taps, 2081, &receiver, 9000, 10907, &answer) == 0 && same_header(answer.header, header), "the same frame");
         expect(answer.packets == 1 && answer.listed == 3, "and its packet");
-        both_code(found, 16);
-        expect((memcmp(bytes_of(&header_bytes), bytes, 16) == 0) == (choice == 127), "coded again it has ones");
+        expect(both_code(found, 16) == 0, "what was read may be coded");
+        expect((memcmp(bytes_of(&header_bytes), bytes, 16) == 0) == (choice == 127), "coded again it is the same exactly where they were ones");
     }
 }
 

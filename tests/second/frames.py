@@ -10,9 +10,9 @@ import codes
 import headers
 # These belong to the interface of this module, though they are defined beside the header's bits.
 from headers import (  # noqa: F401
-    ABSENT, ALL_ONES, BARE_HEADER, DATA, IDLE, RESERVED, TABLE, WIDTHS, WITH_LOCK, Header, Message, bytes_by_table,
-    code_header, header_bytes, header_of, header_refusals, level, may_be_sent, read_header, values_by_table, values_of,
-    with_check, with_reserved,
+    ABSENT, ALL_ONES, BARE_HEADER, DATA, IDLE, RESERVED, WIDTHS, WITH_LOCK, Header, Message, bytes_by_table, code_header,
+    header_bytes, header_of, header_refusals, level, may_be_sent, read_header, values_by_table, values_of, with_check,
+    with_reserved,
 )
 
 PREAMBLE = bytes.fromhex("77AD5B5843641E2E26")  # 000, Table 2-8
@@ -44,7 +44,7 @@ def parts_of(taps, frame):
 
 
 def content_refusals(taps, frame):
-    """Those of 7 to 13 that apply to a frame of the right length; 12 and 13 for every type (R11)."""
+    """Those from 7 to 13 that apply to a frame of the right length; 12 and 13 for every type (R11)."""
     coded, payload = parts_of(taps, frame)
     refusals = header_refusals(coded[:BARE_HEADER])
     if bytes(frame[:len(PREAMBLE)]) != PREAMBLE:

@@ -27,7 +27,7 @@ use Rattle.header.specs.declared.Header.{Header}
 use Rattle.header_reading.specs.Reading.{headerOf, reservedIn, readRefusal, readHeader}
 use Rattle.header_reading.specs.declared.ReadAnswer.the-variants.{Read}
 use Rattle.frame.specs.Frame.{frameBytes, frameBytesWith}
-use Rattle.opening.specs.Opening.{OpenOutcome}
+use Rattle.opening.specs.Opening.{openedReserved, OpenOutcome}
 use Rattle.opening.specs.declared.OpenAnswer.{OpenAnswer}
 use Rattle.opening.specs.declared.OpenAnswer.the-variants.{Opened}
 use Rattle.link.specs.Link.{Piece, Queue, empty}
@@ -71,22 +71,21 @@ unfolding fieldsFit
 cleared-back = demand2-holds .header-back allCleared idle refl
 
 -- accepted bytes that hold the same header and the same reserved bits are the same bytes; and what was read may be coded again
-pub one-coding : (a b : List ℕ) → Bytes a → Bytes b → readRefusal a ≡ 0 → readRefusal b ≡ 0 → headerOf a ≡ headerOf b → reservedIn a ≡ reservedIn b → a ≡ b
+pub one-coding : (a b : List ℕ) → Bytes a → Bytes b → readRefusal a ≡ 0 → readRefusal b ≡ 0
+    → headerOf a ≡ headerOf b → reservedIn a ≡ reservedIn b → a ≡ b
 one-coding a b are-a are-b za zb e bits =
     sym (demand2-holds .header-again a are-a za .0) ∙ (λ j. headerBytesWith (bits j) (e j)) ∙ demand2-holds .header-again b are-b zb .0
+
+pub coded-again : (a out : List ℕ) → Bytes a → readRefusal a ≡ 0 → length out ≡ 16 → codeRefusal (headerOf a) out ≡ 0
+unfolding codeRefusal firstOf
+coded-again a out are-bytes z long = rw (eq-eqb (length out) 16 long, demand2-holds .header-again a are-bytes z .1)
 
 -- bytes with ones are coded again as they were, and bytes with a cleared bit are not
 pub ones-again : (a : List ℕ) → Bytes a → readRefusal a ≡ 0 → reservedIn a ≡ allOnes → headerBytes (headerOf a) ≡ a
 ones-again a are-bytes z ones = demand2-holds .header-same a are-bytes z .1 ones
 
-pub cleared-differs : (a : List ℕ) → Bytes a → readRefusal a ≡ 0 → reservedIn a ≡ allCleared → headerBytes (headerOf a) ≡ a → ⊥
-cleared-differs a are-bytes z cleared same =
-    let d4 = ap (λ (r : ReservedBits). r .d4) (sym cleared ∙ demand2-holds .header-same a are-bytes z .0 same) in
-    omega arith
-
-pub coded-again : (a out : List ℕ) → Bytes a → readRefusal a ≡ 0 → length out ≡ 16 → codeRefusal (headerOf a) out ≡ 0
-unfolding codeRefusal firstOf
-coded-again a out are-bytes z long = rw (eq-eqb (length out) 16 long, demand2-holds .header-again a are-bytes z .1)
+pub cleared-differs : (a : List ℕ) → Bytes a → readRefusal a ≡ 0 → (reservedIn a ≡ allOnes → ⊥) → headerBytes (headerOf a) ≡ a → ⊥
+cleared-differs a are-bytes z cleared same = cleared (demand2-holds .header-same a are-bytes z .0 same)
 
 -- ---- the scrambler
 
@@ -202,13 +201,16 @@ unfolding fieldsFit
 idle-opened taps reserved before answer after allowed room o =
     demand2-holds .frame-back taps reserved idle (zeros 1908) before answer after allowed refl (zeros-length 1908) room o .0
 
--- an accepted frame is told by the header and the area that it is opened to, but for its reserved bits: so two with one answer differ in these alone
-pub told-by-answer : (taps : ℕ) (frame before : List ℕ) (header : Header) (after : List ℕ) → Bytes frame → length before ≡ 1908
-    → OpenOutcome taps frame before (Opened header) after → (reserved : ReservedBits) × (frame ≡ frameBytesWith taps reserved header after)
-told-by-answer taps frame before header after bytes long o =
-    let f = demand2-holds .frame-again taps frame before header after bytes o in
-    let area-is : after ≡ f .1 .0 = f .1 .1 .3 ∙ written-whole before (f .1 .0) (f .1 .1 .2 ∙ sym long) in
-    (f .0, f .1 .1 .0 ∙ ap (frameBytesWith taps (f .0) header) (sym area-is))
+-- two accepted frames that are opened to one header and one area, and have the same reserved bits, are one frame
+pub one-frame : (taps : ℕ) (a b before : List ℕ) (header : Header) (after : List ℕ) → Bytes a → Bytes b → length before ≡ 1908
+    → OpenOutcome taps a before (Opened header) after → OpenOutcome taps b before (Opened header) after
+    → openedReserved taps a ≡ openedReserved taps b → a ≡ b
+one-frame taps a b before header after are-a are-b long oa ob bits =
+    let fa = demand2-holds .frame-again taps a before header after are-a oa in
+    let fb = demand2-holds .frame-again taps b before header after are-b ob in
+    let area-a : after ≡ fa .0 = fa .1 .3 ∙ written-whole before (fa .0) (fa .1 .2 ∙ sym long) in
+    let area-b : after ≡ fb .0 = fb .1 .3 ∙ written-whole before (fb .0) (fb .1 .2 ∙ sym long) in
+    fa .1 .0 ∙ (λ j. frameBytesWith taps (bits j) header ((sym area-a ∙ area-b) j)) ∙ sym (fb .1 .0)
 
 -- ---- next_frame
 
@@ -246,7 +248,7 @@ zeros-refused taps receiver hold list z =
     let begins = ap (λ (l : List ℕ). getD l 0 0) (f .coded) in
     omega arith
 
--- .. and what a fresh sender sends is accepted by a fresh receiver, also of a maker that writes other reserved bits
+-- .. and what a fresh sender sends is accepted by a fresh receiver, and so is the same frame with any reserved bits
 pub idle-accepted : (taps : ℕ) (reserved : ReservedBits) (fields : Fields) (hold list : List ℕ) → tapsAllowed taps ≡ true → fieldsFit fields ≡ true
     → length hold ≡ 9000 → 10907 ≤ length list → Bytes (frameBytesWith taps reserved (firstHeader Idle fields) (zeros 1908))
     → receiveRefusal taps (frameBytesWith taps reserved (firstHeader Idle fields) (zeros 1908)) freshReceiver hold list ≡ 0

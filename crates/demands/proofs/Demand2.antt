@@ -16,17 +16,17 @@ use Rattle.lent.proofs.Written.{written-front}
 use Rattle.scrambler.specs.Scrambler.{scrambled}
 use Rattle.scrambler.proofs.Laws.{scrambled-bytes, scrambled-length}
 use Rattle.scrambler.proofs.Recurrence.{first-bits, recurrence, scrambled-byte}
-use Rattle.header.specs.Header.{ReservedBits, allOnes, headerFits, fieldsFit}
+use Rattle.header.specs.Header.{allOnes, headerFits, fieldsFit}
 use Rattle.header.specs.declared.Fields.{Fields}
 use Rattle.header.specs.declared.FrameKind.{FrameKind}
 use Rattle.header.specs.declared.Header.{Header}
 use Rattle.header_reading.proofs.Theorems.{read-of-coded, coded-of-read, sent-of-read}
 use Rattle.frame.specs.Frame.{frameBytes, frameBytesWith}
 use Rattle.frame.proofs.Laws.{frame-length}
-use Rattle.opening.specs.Opening.{frameTable, unscrambled, openedHeader, openedArea, OpenOutcome}
+use Rattle.opening.specs.Opening.{frameTable, unscrambled, openedHeader, openedReserved, openedArea, OpenOutcome}
 use Rattle.opening.specs.declared.OpenAnswer.the-variants.{Opened}
 use Rattle.opening.proofs.Built.{built-passes, built-header, built-area}
-use Rattle.opening.proofs.Accepted.{openedReserved, accepted-frame, accepted-fits, accepted-area}
+use Rattle.opening.proofs.Accepted.{accepted-frame, accepted-fits, accepted-area}
 use Rattle.opening.proofs.Theorems.{open-of-built, built-of-open}
 use Rattle.link.specs.Link.{Piece, Queue}
 use Rattle.link.proofs.RoundTrip.{parse-queue}
@@ -131,7 +131,8 @@ module _ (taps : ℕ) (frame : List ℕ) (receiver : Receiver) (hold list : List
       let reserved = f .reserved in
       let header = f .header in
       let area = f .area in
-      let header-is : openedHeader taps frame ≡ header = ap (openedHeader taps) (f .coded) ∙ built-header taps reserved header area (f .area-size) (f .may-be-sent) in
+      let header-is : openedHeader taps frame ≡ header =
+      ap (openedHeader taps) (f .coded) ∙ built-header taps reserved header area (f .area-size) (f .may-be-sent) in
       let area-is : openedArea taps frame ≡ area = ap (openedArea taps) (f .coded) ∙ built-area taps reserved header area (f .area-size) in
       let part = heldPart header receiver hold in
       receive-pass taps frame receiver hold list (record {
@@ -154,11 +155,11 @@ module _ (taps : ℕ) (frame : List ℕ) (receiver : Receiver) (hold list : List
 -- ---- the demand
 
 frame-again-so : (taps : ℕ) (frame before : List ℕ) (header : Header) (after : List ℕ) → Bytes frame → OpenOutcome taps frame before (Opened header) after
-    → (reserved : ReservedBits) × ((area : List ℕ) × ((frame ≡ frameBytesWith taps reserved header area) × (headerFits header ≡ true)
-    × (length area ≡ 1908) × (after ≡ written before 0 area)))
+    → (area : List ℕ) × ((frame ≡ frameBytesWith taps (openedReserved taps frame) header area) × (headerFits header ≡ true)
+    × (length area ≡ 1908) × (after ≡ written before 0 area))
 frame-again-so taps frame before header after bytes o =
     let b = built-of-open taps frame before header after bytes o in
-    (b .0 .reserved, (openedArea taps frame, (b .0 .frame-is, b .0 .may-be-sent, b .0 .long, b .1)))
+    (openedArea taps frame, (b .0 .frame-is, b .0 .may-be-sent, b .0 .long, b .1))
 
 scrambles : (taps : ℕ) → Scrambles taps
 scrambles taps = record { first-bits = first-bits taps; recurrence = recurrence taps; added = scrambled-byte taps; as-many = scrambled-length taps }

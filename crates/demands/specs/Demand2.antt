@@ -1,7 +1,7 @@
 -- DEMAND 2: what is sent is bit for bit what the standard and paper 01 define; what is accepted is exactly what they allow, read back to the same fields and
 -- bytes. What they define is said by `headerBytes` (the 16 bytes), `frameBytes` (a whole frame), `Scrambles` (the scrambler's bits), `Allowed` (the packing
--- rules of an area) and `HoldsQueue` (the layout of a queue). What they allow a frame that arrives to be is `frameBytesWith` reserved bits of any value (02,
--- M-100). `demand2-holds` in proofs/Demand2.antt is the proof.
+-- rules of an area) and `HoldsQueue` (the layout of a queue). What may arrive is the same with reserved bits of any value (`headerBytesWith`,
+-- `frameBytesWith`), since 02, M-100. `demand2-holds` in proofs/Demand2.antt is the proof.
 use mathlib.Core.Path.{_≡_}
 use mathlib.Core.Logic.{_↔_}
 use mathlib.Core.Bool.{true, false, cond}
@@ -24,7 +24,7 @@ use Rattle.header.specs.declared.FrameKind.the-variants.{Idle, Data}
 use Rattle.header.specs.declared.Header.{Header}
 use Rattle.header_reading.specs.declared.ReadAnswer.the-variants.{Read}
 use Rattle.frame.specs.Frame.{frameBytes, frameBytesWith}
-use Rattle.opening.specs.Opening.{OpenOutcome}
+use Rattle.opening.specs.Opening.{openedReserved, OpenOutcome}
 use Rattle.opening.specs.declared.OpenAnswer.{OpenAnswer}
 use Rattle.opening.specs.declared.OpenAnswer.the-variants.{Opened}
 use Rattle.link.specs.Link.{Piece, Queue, IsQueue, busy, fits}
@@ -78,7 +78,8 @@ pub record Arguments (taps : ℕ) (receiver : Receiver) (hold list : List ℕ) :
   pub list-size : listSize ≤ length list
   pub held : receiver .held ≤ mostHeld
 
--- The frame is one that the standard and the packing rules define (otherwise 2, 7 to 14), and its first record can be joined to what is held (otherwise 15).
+-- The frame is one that the standard and the packing rules define, but for its reserved bits, which may have any value (otherwise 2, 7 to 9, 11 to 14), and
+-- its first record can be joined to what is held (otherwise 15).
 pub record Acceptable (taps : ℕ) (frame : List ℕ) (receiver : Receiver) (hold : List ℕ) : Type 0 where
   pub reserved : ReservedBits
   pub header : Header
@@ -95,11 +96,12 @@ pub record Acceptable (taps : ℕ) (frame : List ℕ) (receiver : Receiver) (hol
 
 pub record Demand2 : Type 0 where
   -- the header: what is coded is read back, whatever the reserved bits; what is accepted is what would be coded of what was read, which may be sent, and of
-  -- the reserved bits that came; so what we send of it are the same 16 bytes exactly where these were ones (02, M-100)
+  -- the reserved bits that came; coded as we send it, it is the same 16 bytes exactly where these were ones (02, M-100)
   pub header-back : (reserved : ReservedBits) (header : Header) → headerFits header ≡ true → readHeader (headerBytesWith reserved header) ≡ Read header
   pub header-again : (bytes : List ℕ) → Bytes bytes → readRefusal bytes ≡ 0
       → (headerBytesWith (reservedIn bytes) (headerOf bytes) ≡ bytes) × (headerFits (headerOf bytes) ≡ true)
-  pub header-same : (bytes : List ℕ) → Bytes bytes → readRefusal bytes ≡ 0 → (headerBytes (headerOf bytes) ≡ bytes) ↔ (reservedIn bytes ≡ allOnes)
+  pub header-same : (bytes : List ℕ) → Bytes bytes → readRefusal bytes ≡ 0
+      → (headerBytes (headerOf bytes) ≡ bytes) ↔ (reservedIn bytes ≡ allOnes)
   -- the scrambler, for all taps
   pub scrambler : (taps : ℕ) → Scrambles taps
   -- the queue: what is not refused with 3 holds the packets that wait, and no others
@@ -112,11 +114,11 @@ pub record Demand2 : Type 0 where
   pub frame-back : (taps : ℕ) (reserved : ReservedBits) (header : Header) (area before : List ℕ) (answer : OpenAnswer) (after : List ℕ)
       → tapsAllowed taps ≡ true → headerFits header ≡ true → length area ≡ areaSize → areaSize ≤ length before
       → OpenOutcome taps (frameBytesWith taps reserved header area) before answer after → (answer ≡ Opened header) × (after ≡ written before 0 area)
-  -- .. and what is opened is what would be built of the answer, whose header may be sent, of some reserved bits and of the area written
+  -- .. and what is opened is what would be built of the answer, whose header may be sent, of the reserved bits that came and of the area written
   pub frame-again : (taps : ℕ) (frame before : List ℕ) (header : Header) (after : List ℕ)
       → Bytes frame → OpenOutcome taps frame before (Opened header) after
-      → (reserved : ReservedBits) × ((area : List ℕ) × ((frame ≡ frameBytesWith taps reserved header area) × (headerFits header ≡ true)
-      × (length area ≡ areaSize) × (after ≡ written before 0 area)))
+      → (area : List ℕ) × ((frame ≡ frameBytesWith taps (openedReserved taps frame) header area) × (headerFits header ≡ true)
+      × (length area ≡ areaSize) × (after ≡ written before 0 area))
   -- next_frame: what stands at the front of its buffer, for a number of 16 bits
   pub sends : (taps : ℕ) (fields : Fields) (sender sender′ : Sender) (queue out : List ℕ) (kind : FrameKind) (queue′ out′ : List ℕ)
       → sender .next .0 < frameNumbers → NextOutcome taps fields sender queue out (Sent sender′ kind) queue′ out′

@@ -1,4 +1,5 @@
--- A frame on the wire (2.6.3.1; 01, "The frame on the wire"): 2,081 bytes, made of a header and 1,908 bytes of area.
+-- A frame on the wire (2.6.3.1; 01, "The frame on the wire"): 2,081 bytes, made of a header, with reserved bits of any value or as it is sent, and 1,908
+-- bytes of area.
 use mathlib.Core.List.{List, [], _∷_, _++_}
 use Prim.Native.Nat.{ℕ}
 use Rattle.basics.specs.Lists.{zeros}

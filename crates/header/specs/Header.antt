@@ -1,4 +1,5 @@
--- The 16 bytes of a header, d0 to d15 (Tables 2-9 and 2-10; 01, "The frame on the wire"), and which header may be sent in them.
+-- The 16 bytes of a header, d0 to d15 (Tables 2-9 and 2-10; 01, "The frame on the wire"), with reserved bits of any value and as they are sent; and which
+-- header may be sent in them.
 use mathlib.Core.Bool.{Bool, cond, _&&_, _||_}
 use mathlib.Core.List.{List, [], _∷_, _++_}
 use Prim.Native.Nat.{ℕ, _+_, _*_, _%_}

@@ -9,7 +9,8 @@ use Rattle.crc.specs.Crc.{crc-16}
 use Rattle.basics.specs.Numbers.{fitsBits, highFirst}
 use Rattle.lent.specs.Refusals.{firstOf}
 use Rattle.fast_channel.specs.FastChannel.{opcodeOf, payloadOf, messageFits}
-use Rattle.header.specs.Header.{ReservedBits, allOnes, flagsByte, secondsByte, channelByte, fieldBytesWith, headerBytes, headerBytesWith, rxfnRule, fieldsFit, headerFits}
+use Rattle.header.specs.Header.{ReservedBits, allOnes, flagsByte, secondsByte, channelByte, fieldBytesWith, headerBytes, headerBytesWith}
+use Rattle.header.specs.Header.{rxfnRule, fieldsFit, headerFits}
 use Rattle.header_reading.specs.Reading.{fieldsOf, headerOf, reservedIn, sumHolds, rulesHold, headerTable}
 use Rattle.fast_channel.specs.declared.FastChannel.{FastChannel}
 use Rattle.header.specs.declared.Header.{Header}

@@ -32,7 +32,7 @@ coded-of-read bytes h e =
     let none = sym (read-by-content bytes size) ∙ e in
     (header-again bytes h size none, received-fits bytes h size none)
 
--- So what is sent of it are the same 16 bytes exactly where the reserved bits were ones.
+-- Coded as we send it, it is the same 16 bytes exactly where the reserved bits were ones.
 pub sent-of-read : (bytes : List ℕ) → Bytes bytes → readRefusal bytes ≡ 0 → (headerBytes (headerOf bytes) ≡ bytes) ↔ (reservedIn bytes ≡ allOnes)
 sent-of-read bytes h e = (
   λ same. ap reservedIn (sym same) ∙ ones-sent (headerOf bytes),

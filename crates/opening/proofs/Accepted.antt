@@ -17,16 +17,12 @@ use Rattle.reed_solomon.proofs.Laws.{parity-zeros, true-codeword, of-shorter}
 use Rattle.reed_solomon.proofs.Interleaved.{true-codewords, codewords-coded}
 use Rattle.scrambler.specs.Scrambler.{scrambled}
 use Rattle.scrambler.proofs.Laws.{scrambled-twice, scrambled-bytes}
-use Rattle.header.specs.Header.{ReservedBits, headerBytesWith, headerFits}
-use Rattle.header_reading.specs.Reading.{headerOf, reservedIn}
+use Rattle.header.specs.Header.{headerBytesWith, headerFits}
+use Rattle.header_reading.specs.Reading.{headerOf}
 use Rattle.header_reading.proofs.Received.{received-fits, header-again}
 use Rattle.frame.specs.Frame.{codedHeaderWith, areaCheck, areaPayload, frameBytesWith}
-use Rattle.opening.specs.Opening.{unscrambled, headerPart, areaPart, areaChecked, frameTable, openedHeader, openedArea}
+use Rattle.opening.specs.Opening.{unscrambled, headerPart, areaPart, areaChecked, frameTable, openedHeader, openedReserved, openedArea}
 use Rattle.opening.proofs.Laws.{Passed, frame-passed, unscrambled-length}
-
--- the reserved bits that came
-abbrev pub openedReserved : ℕ → List ℕ → ReservedBits
-openedReserved taps frame = reservedIn (headerPart (unscrambled taps frame))
 
 module _ (taps : ℕ) (frame : List ℕ) (bytes : Bytes frame) (long : length frame ≡ 2081) (none : firstOf (frameTable taps frame) ≡ 0) where
   abbrev body : List ℕ

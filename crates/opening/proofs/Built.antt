@@ -110,7 +110,9 @@ module _ (taps : ℕ) (reserved : ReservedBits) (header : Header) (area : List �
       }
 
   pub built-accepted : (buffer : List ℕ) → tapsAllowed taps ≡ true → headerFits header ≡ true → 1908 ≤ length buffer → openRefusal taps frame buffer ≡ 0
-  built-accepted buffer t h room = open-by-frame taps frame buffer (record { allowed = t; long = frame-length reserved header taps area long; room = room }) ∙ built-passes h
+  built-accepted buffer t h room =
+      let whole = frame-length reserved header taps area long in
+      open-by-frame taps frame buffer (record { allowed = t; long = whole; room = room }) ∙ built-passes h
 
   pub built-header : headerFits header ≡ true → openedHeader taps frame ≡ header
   unfolding openedHeader

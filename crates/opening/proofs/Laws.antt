@@ -22,7 +22,7 @@ pub unscrambled-length : (taps : ℕ) (frame : List ℕ) → length frame ≡ 20
 unfolding unscrambled
 unscrambled-length taps frame e = scrambled-length taps (drop 9 frame) ∙ length-drop 9 frame ∙ ap (λ (n : ℕ). n - 9) e
 
--- ---- the rows 7 to 13
+-- ---- the rows from 7 on
 
 -- what is known of a frame that none of them refuses
 pub record Passed (taps : ℕ) (frame : List ℕ) : Type 0 where

@@ -13,12 +13,12 @@ use Rattle.scrambler.specs.Scrambler.{tapsAllowed}
 use Rattle.header.specs.Header.{ReservedBits, headerFits}
 use Rattle.header.specs.declared.Header.{Header}
 use Rattle.frame.specs.Frame.{frameBytesWith}
-use Rattle.opening.specs.Opening.{openRefusal, openedHeader, openedArea, openNumber, OpenOutcome}
+use Rattle.opening.specs.Opening.{openRefusal, openedHeader, openedReserved, openedArea, openNumber, OpenOutcome}
 use Rattle.opening.specs.declared.OpenAnswer.{OpenAnswer}
 use Rattle.opening.specs.declared.OpenAnswer.the-variants.{Opened, Refused}
 use Rattle.opening.proofs.Laws.{open-passed}
 use Rattle.opening.proofs.Built.{built-accepted, built-header, built-area}
-use Rattle.opening.proofs.Accepted.{openedReserved, accepted-frame, accepted-fits, accepted-area}
+use Rattle.opening.proofs.Accepted.{accepted-frame, accepted-fits, accepted-area}
 
 -- the answer's number is the refusal's
 pub open-numbers : {taps : ℕ} {frame before : List ℕ} {r : OpenAnswer} {after : List ℕ} → OpenOutcome taps frame before r after
@@ -43,11 +43,10 @@ open-of-built taps reserved header area before r after t h e room outcome =
 
 -- what is known of a frame that was accepted
 pub record AcceptedAs (taps : ℕ) (frame : List ℕ) (header : Header) (area : List ℕ) : Type 0 where
-  pub reserved : ReservedBits
   pub allowed : tapsAllowed taps ≡ true
   pub may-be-sent : headerFits header ≡ true
   pub long : length area ≡ 1908
-  pub frame-is : frame ≡ frameBytesWith taps reserved header area
+  pub frame-is : frame ≡ frameBytesWith taps (openedReserved taps frame) header area
 
 -- Whatever is accepted is what would be built of the header that was answered, the reserved bits that came and the area that was written.
 pub built-of-open : (taps : ℕ) (frame before : List ℕ) (header : Header) (after : List ℕ) → Bytes frame
@@ -60,11 +59,11 @@ built-of-open taps frame before header after bytes outcome =
     let header-is : header ≡ openedHeader taps frame =
     ap (headerIn header) (outcome .answer ∙ sym (accepted 0 _ _ _ _ (sym none) refl refl)) in (
       record {
-        reserved = openedReserved taps frame;
         allowed = passed .0 .allowed;
         may-be-sent = ap headerFits header-is ∙ accepted-fits taps frame bytes whole (passed .1);
         long = accepted-area taps frame bytes whole (passed .1);
-        frame-is = accepted-frame taps frame bytes whole (passed .1) ∙ ap (λ (x : Header). frameBytesWith taps (openedReserved taps frame) x (openedArea taps frame)) (sym header-is);
+        frame-is = accepted-frame taps frame bytes whole (passed .1)
+            ∙ ap (λ (x : Header). frameBytesWith taps (openedReserved taps frame) x (openedArea taps frame)) (sym header-is);
       },
       outcome .bytes ∙ sym (accepted 0 _ _ _ _ (sym none) refl refl),
     )

@@ -12,7 +12,8 @@ use Rattle.lent.specs.Written.{written}
 use Rattle.reed_solomon.specs.Code.{isCodeword, lengthened}
 use Rattle.reed_solomon.specs.Payload.{areCodewords}
 use Rattle.scrambler.specs.Scrambler.{tapsAllowed, scrambled}
-use Rattle.header_reading.specs.Reading.{headerOf, headerTable}
+use Rattle.header_reading.specs.Reading.{headerOf, reservedIn, headerTable}
+use Rattle.header.specs.Header.{ReservedBits}
 use Rattle.header.specs.declared.Header.{Header}
 use Rattle.frame.specs.Frame.{preamble, areaCheck}
 use Rattle.opening.specs.declared.OpenAnswer.{OpenAnswer}
@@ -43,11 +44,11 @@ bodyTable body =
     ∷ 13 unless areaChecked body
     ∷ []
 
--- what is asked of a frame of 2,081 bytes. 7: the preamble differs. 8 to 13: of the bytes after it.
+-- what is asked of a frame of 2,081 bytes. 7: the preamble differs. The others: of the bytes after it.
 abbrev pub frameTable : ℕ → List ℕ → List Row
 frameTable taps frame = 7 unless same (take 9 frame) preamble ∷ bodyTable (unscrambled taps frame)
 
--- 1: taps at or above 2^25, or tap 0 clear. 2: the frame is not 2,081 long, or fewer than 1,908 bytes are lent for the area. 7 to 13: of the frame.
+-- 1: taps at or above 2^25, or tap 0 clear. 2: the frame is not 2,081 long, or fewer than 1,908 bytes are lent for the area. The others: of the frame.
 abbrev pub openTable : ℕ → List ℕ → List ℕ → List Row
 openTable taps frame area =
     1 unless tapsAllowed taps
@@ -57,9 +58,12 @@ openTable taps frame area =
 unfoldable pub openRefusal : ℕ → List ℕ → List ℕ → ℕ
 openRefusal taps frame area = firstOf (openTable taps frame area)
 
--- the header and the area of a frame
+-- the header, the reserved bits beside it, and the area of a frame
 unfoldable pub openedHeader : ℕ → List ℕ → Header
 openedHeader taps frame = headerOf (headerPart (unscrambled taps frame))
+
+abbrev pub openedReserved : ℕ → List ℕ → ReservedBits
+openedReserved taps frame = reservedIn (headerPart (unscrambled taps frame))
 
 unfoldable pub openedArea : ℕ → List ℕ → List ℕ
 openedArea taps frame = areaPart (unscrambled taps frame)

@@ -45,7 +45,7 @@ pub fn unscrambled(taps: u32, frame: &[u8]) -> [u8; 2072]
     body
 }
 
-// 8 to 13.
+// 8, 9, 11 to 13.
 pub fn inner_refusal(body: &[u8]) -> u8
     requires { ⌜ length (now body) ≡ 2072 ⌝ }
     ensures { λ r. ⌜ r ≡ firstOf (bodyTable (now (body .entry))) ⌝ }

@@ -122,7 +122,7 @@ module _ (taps : ℕ) (frame : List ℕ) (receiver : Receiver) (hold list : List
         e ∙ sym (accepted (openRefusal taps frame (zeros 1908)) _ _ _ _ refl z refl)
         ∙ written-whole (zeros 1908) area (opened-length taps frame (argument-passed none .buffers .sized) ∙ sym (zeros-length 1908))
 
-    -- a refusal with 7 to 13
+    -- a refusal of the frame
     pub frame-then : (n : ℕ) → opening.Refused n ≡ answerBy (openRefusal taps frame (zeros 1908)) (opening.Opened header) opening.Refused
         → (n ≡ receiveRefusal taps frame receiver hold list) × (n ≡ 0 → ⊥)
     frame-then n answered =

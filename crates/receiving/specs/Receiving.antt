@@ -35,7 +35,7 @@ module _ (taps : ℕ) (frame : List ℕ) (receiver : Receiver) (hold list : List
   abbrev step : Step
   step = joined header area receiver hold
 
-  -- the arguments' refusals, then 7 to 13 of the frame, then 14 and 15 of its area
+  -- the arguments' refusals, then those of the frame, 7 to 9 and 11 to 13, then 14 and 15 of its area
   abbrev pub receiveTable : List Row
   receiveTable =
       argumentTable taps frame (receiver .held) hold list

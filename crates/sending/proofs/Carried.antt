@@ -73,7 +73,8 @@ module _ (taps : ℕ) (fields : Fields) (sender : Sender) (bytes out : List ℕ)
           counted = count;
           kind-is = refl;
           long = long;
-          coded = ap (take 2081) frame ∙ written-front out (frameBytes taps header (areaFor queue)) 2081 (frame-length allOnes header taps (areaFor queue) long);
+          coded = ap (take 2081) frame
+              ∙ written-front out (frameBytes taps header (areaFor queue)) 2081 (frame-length allOnes header taps (areaFor queue) long);
         }
 
     remains : Stands bytes′ sender′ (suc i) (leftIn queue)

@@ -40,7 +40,8 @@ write-at-requires c κs =
     let at-args = c .before .before .before .before .before .before .before .args in
     let at-code-refusal = c .before .before .before .before .code-refusal in
     let at-if1 = c .before .before .before .if1 in
-    omega (arith, ap length (at-header-bytes .ensures) ∙ header-length allOnes (at-args .header), code-length _ _ (sym (at-code-refusal .ensures) ∙ at-if1 .left))
+    let coded = ap length (at-header-bytes .ensures) ∙ header-length allOnes (at-args .header) in
+    omega (arith, coded, code-length _ _ (sym (at-code-refusal .ensures) ∙ at-if1 .left))
 
 same-length-2 : tie.Need-same-length-2
 same-length-2 c = search needs

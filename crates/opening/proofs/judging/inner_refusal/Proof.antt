@@ -1,4 +1,4 @@
--- 8 to 13 by the rows of `bodyTable`: those of the header first (`header-first`), then, where none of these applies, 12 and 13 (`payload-then`).
+-- 8 and on by the rows of `bodyTable`: those of the header first (`header-first`), then, where none of these applies, 12 and 13 (`payload-then`).
 use native.Mathlib.Omega.{arith}
 use mathlib.Core.Path.{sym, ap, _∙_}
 use borrow.Author.Tests.{not-true, not-false}
