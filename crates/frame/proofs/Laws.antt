@@ -1,17 +1,16 @@
 -- How long a frame and its parts are.
-use mathlib.Core.Path.{_≡_, refl, ap, ap₂, _∙_}
+use mathlib.Core.Path.{_≡_, refl, ap₂, _∙_}
 use mathlib.Core.List.{List, _++_}
 use Prim.Native.Nat.{ℕ, _+_}
 use lib.ListN.{length, length-append}
 use Rattle.basics.specs.Lists.{zeros}
 use Rattle.reed_solomon.proofs.Laws.{parity-length}
 use Rattle.reed_solomon.proofs.Interleaved.{coded-length}
-use Rattle.scrambler.specs.Scrambler.{scrambled}
 use Rattle.scrambler.proofs.Laws.{scrambled-length}
 use Rattle.header.specs.Header.{ReservedBits, headerBytesWith}
 use Rattle.header.specs.declared.Header.{Header}
 use Rattle.header.proofs.Bytes.{header-length}
-use Rattle.frame.specs.Frame.{preamble, codedHeaderWith, areaCheck, areaPayload, frameBytesWith}
+use Rattle.frame.specs.Frame.{codedHeaderWith, areaCheck, areaPayload, frameBytesWith}
 
 pub check-length : (area : List ℕ) → length (areaCheck area) ≡ 4
 unfolding areaCheck
@@ -34,9 +33,4 @@ module _ (reserved : ReservedBits) (header : Header) where
 
   pub frame-length : (taps : ℕ) (area : List ℕ) → length area ≡ 1908 → length (frameBytesWith taps reserved header area) ≡ 2081
   unfolding frameBytesWith
-  frame-length taps area e =
-      let body = codedHeaderWith reserved header ++ areaPayload area in
-      length-append preamble (scrambled taps body)
-      ∙ ap (λ (n : ℕ). 9 + n) (scrambled-length taps body
-      ∙ length-append (codedHeaderWith reserved header) (areaPayload area)
-      ∙ ap₂ (λ (a b : ℕ). a + b) coded-header-length (payload-length area e))
+  frame-length taps area e = simp (length-append, scrambled-length, coded-header-length, payload-length area e)
