@@ -2,15 +2,30 @@
 #include "inputs.h"
 #include "taqwelim.h"
 
-static uint8_t queues[CALLS][TAQWELIM_QUEUE_SIZE], packet[PACKET], frame[TAQWELIM_FRAME_SIZE], hold[TAQWELIM_HOLD_SIZE], list[TAQWELIM_LIST_MIN];
+static uint8_t queues[CALLS][TAQWELIM_QUEUE_SIZE], packet[PACKET], frame[TAQWELIM_FRAME_SIZE], area[TAQWELIM_AREA_SIZE];
+static uint8_t hold[TAQWELIM_HOLD_SIZE], list[TAQWELIM_LIST_MIN];
 static const struct given *given;
 static taqwelim_sender sender; /* of each queue, before the call */
+static taqwelim_header header; /* of the frame that was opened */
 static uint32_t taps;
 
 static void next_frame(const char *name, int k)
 {
     taqwelim_fields fields = TAQWELIM_FIELDS_WITHOUT_MESSAGE;
     must(taqwelim_next_frame(taps, fields, sender, queues[k], sizeof queues[k], frame, sizeof frame).refusal, name);
+}
+
+static void open_frame(const char *name)
+{
+    taqwelim_open_answer opened = taqwelim_open(taps, frame, sizeof frame, area, sizeof area);
+    must(opened.refusal, name);
+    header = opened.header;
+}
+
+static void apply(const char *name)
+{
+    taqwelim_receiver fresh = taqwelim_fresh_receiver();
+    must(taqwelim_apply(header, area, sizeof area, fresh, hold, sizeof hold, list, sizeof list).refusal, name);
 }
 
 static void call(const char *name, int k)
@@ -21,8 +36,10 @@ static void call(const char *name, int k)
         must(taqwelim_waiting(queues[k], sizeof queues[k], sender).refusal, name);
     else if (begins(name, "put"))
         must(taqwelim_put(queues[k], sizeof queues[k], sender, packet, given->put).refusal, name);
+    else if (begins(name, "open"))
+        open_frame(name);
     else
-        must(taqwelim_receive(taps, frame, sizeof frame, taqwelim_fresh_receiver(), hold, sizeof hold, list, sizeof list).refusal, name);
+        apply(name);
 }
 
 int main(int argc, char **argv)
@@ -37,8 +54,10 @@ int main(int argc, char **argv)
         sender.start = given->start;
         sender.used = fill_queue(queues[k], given);
     }
-    if (begins(name, "receive"))
+    if (begins(name, "open") || begins(name, "apply"))
         next_frame(name, 0);
+    if (begins(name, "apply"))
+        open_frame(name);
     for (int k = 0; k < count && k < CALLS; k++)
         call(name, k);
     return show(frame, sizeof frame);

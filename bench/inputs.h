@@ -37,10 +37,11 @@ static inline void fill_random(uint8_t *bytes, size_t count)
     }
 }
 
-/* What a call is given: the packets that wait in the ring, `ones` of one byte and then some of these lengths, from which place on, and how many bytes are
- * put. A frame that is received is the next one of its queue. Every packet begins with the same bytes, so that frames of long packets have the same bytes
- * but for a mark: what the peer's codes cost goes by the bytes. With a start of 31,000 the ring's end parts the front packet, and the mark of a packet of one
- * byte. */
+/* What a call is given: the packets that wait in the ring, `ones` of one byte and then some of these lengths, from
+ * which place on, and how many bytes are put. A frame that is opened, or opened and applied, is the next one of its
+ * queue. Every packet begins with the same bytes, so that frames of long packets have the same bytes but for a mark:
+ * what the peer's codes cost goes by the bytes. With a start of 31,000 the ring's end parts the front packet, and the
+ * mark of a packet of one byte. */
 static const struct given {
     const char *name;
     void (*fill)(uint8_t *bytes, size_t count);
@@ -59,9 +60,10 @@ static const struct given {
     {"next_ones", fill_samples, 0, ONES, {0}, 0},
     {"next_ones_parted", fill_samples, 31000, ONES, {0}, 0},
     {"next_random", fill_random, 0, 0, {PACKET, 0}, 0},
-    {"receive", fill_samples, 0, 0, {PACKET, 0}, 0},
-    {"receive_ones", fill_samples, 0, ONES, {0}, 0},
-    {"receive_random", fill_random, 0, 0, {PACKET, 0}, 0},
+    {"open_one", fill_samples, 0, 0, {PACKET, 0}, 0},
+    {"open_random", fill_random, 0, 0, {PACKET, 0}, 0},
+    {"apply_one", fill_samples, 0, 0, {PACKET, 0}, 0},
+    {"apply_ones", fill_samples, 0, ONES, {0}, 0},
 };
 
 /* What the call of this name is given, or NULL. */

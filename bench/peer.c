@@ -5,7 +5,7 @@
 /* DATA, TXFN 0, no acknowledgement, no time, fast channel absent. */
 static const uint8_t header[14] = {0, 0, 0, 0, 0xF1, 0, 0, 0, 0, 0, 0xC0, 0x8F, 0xFF, 0xFF};
 static uint8_t area[AREA], payload[PAYLOAD], frame[FRAME], opened[AREA], opened_header[14], hold[HOLD], list[LIST], queues[CALLS][QUEUE], packet[PACKET];
-static const struct given *given; /* to put, next_frame and receive; NULL for the parts of a frame's coding */
+static const struct given *given; /* to put, next_frame, open and apply; NULL for the parts of a frame's coding */
 static struct peer_sender waits;  /* of each queue, before the call */
 static volatile uint32_t sum;
 static uint32_t taps;
@@ -14,13 +14,13 @@ static void call(const char *name, int k)
 {
     struct peer_sender sender = waits;
     struct peer_receiver receiver = {0, 0, 0};
-    struct peer_received received;
+    struct peer_applied applied;
     if (given && begins(name, "next"))
         must(peer_next_frame(taps, queues[k], QUEUE, &sender, frame, FRAME), name);
     else if (given && begins(name, "put"))
         must(peer_put(queues[k], QUEUE, &sender, packet, given->put), name);
-    else if (given)
-        must(peer_receive(taps, frame, FRAME, &receiver, hold, HOLD, list, LIST, &received), name);
+    else if (given && begins(name, "apply"))
+        must(peer_apply(opened_header, opened, AREA, &receiver, hold, HOLD, list, LIST, &applied), name);
     else if (!strcmp(name, "write_parity"))
         peer_write_parity(payload);
     else if (!strcmp(name, "are_codewords"))
@@ -31,13 +31,14 @@ static void call(const char *name, int k)
         peer_scramble(taps, frame + 9, 2072);
     else if (!strcmp(name, "build"))
         peer_build(taps, header, area, frame);
-    else if (!strcmp(name, "open"))
-        must(peer_open(taps, frame, opened_header, opened), name);
+    else if (!strcmp(name, "open") || (given && begins(name, "open")))
+        must(peer_open(taps, frame, FRAME, opened_header, opened, AREA), name);
     else
         must(1, name);
 }
 
-/* What the call is given: a filled ring, and for `receive` its next frame; or an area, its payload and its frame. */
+/* What the call is given: a filled ring, and its next frame for `open`, opened for `apply`; or an area, its payload and
+ * its frame. */
 static void prepare(const char *name)
 {
     peer_start();
@@ -54,8 +55,10 @@ static void prepare(const char *name)
         waits.used = fill_queue(queues[k], given);
     }
     struct peer_sender sender = waits;
-    if (begins(name, "receive"))
+    if (begins(name, "open") || begins(name, "apply"))
         must(peer_next_frame(taps, queues[0], QUEUE, &sender, frame, FRAME), name);
+    if (begins(name, "apply"))
+        must(peer_open(taps, frame, FRAME, opened_header, opened, AREA), name);
 }
 
 int main(int argc, char **argv)

@@ -1,4 +1,5 @@
-/* The peer: a plain C coder of the same frames over libfec, to compare instruction counts with. It does the same work as the library, call by call. */
+/* The peer: a plain C coder of the same frames over libfec, to compare instruction counts with. It does the same work
+ * as the library, call by call; a header is the first 14 of its bytes. */
 #ifndef PEER_H
 #define PEER_H
 
@@ -9,7 +10,7 @@ enum { AREA = 1908, PAYLOAD = 2040, FRAME = 2081, QUEUE = 32768, HOLD = 9000, LI
 
 struct peer_sender { size_t start, used; uint16_t next; };
 struct peer_receiver { int expects; uint16_t expected; size_t held; };
-struct peer_received { uint16_t txfn, missed; size_t packets, listed; };
+struct peer_applied { uint16_t missed; size_t packets, listed; };
 
 void peer_start(void);
 
@@ -19,12 +20,14 @@ void peer_scramble(uint32_t taps, uint8_t *bytes, size_t count);
 void peer_write_parity(uint8_t payload[PAYLOAD]);
 int peer_are_codewords(const uint8_t payload[PAYLOAD]);
 void peer_build(uint32_t taps, const uint8_t header[14], const uint8_t area[AREA], uint8_t frame[FRAME]);
-int peer_open(uint32_t taps, const uint8_t frame[FRAME], uint8_t header[14], uint8_t area[AREA]);
+int peer_field_refusal(const uint8_t header[14]);
+int peer_open(uint32_t taps, const uint8_t *frame, size_t frame_length, uint8_t header[14], uint8_t *area,
+              size_t area_length);
 
 /* packing.c */
 int peer_put(uint8_t *queue, size_t queue_length, struct peer_sender *sender, const uint8_t *packet, size_t length);
 int peer_next_frame(uint32_t taps, uint8_t *queue, size_t queue_length, struct peer_sender *sender, uint8_t *frame, size_t frame_length);
-int peer_receive(uint32_t taps, const uint8_t *frame, size_t frame_length, struct peer_receiver *receiver, uint8_t *hold, size_t hold_length, uint8_t *list,
-                 size_t list_length, struct peer_received *received);
+int peer_apply(const uint8_t header[14], const uint8_t *area, size_t area_length, struct peer_receiver *receiver,
+               uint8_t *hold, size_t hold_length, uint8_t *list, size_t list_length, struct peer_applied *applied);
 
 #endif

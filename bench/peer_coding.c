@@ -96,9 +96,25 @@ void peer_build(uint32_t taps, const uint8_t header[14], const uint8_t area[AREA
     peer_scramble(taps, coded, 2072);
 }
 
-int peer_open(uint32_t taps, const uint8_t frame[FRAME], uint8_t header[14], uint8_t area[AREA])
+/* Whether the fields keep their rules (11). */
+int peer_field_refusal(const uint8_t header[14])
+{
+    int opcode = header[11] & 15, fast = header[12] | header[13] << 8;
+    if (!(header[4] & 4) && (header[2] | header[3]) != 0)
+        return 11;
+    if ((opcode == 1 || opcode == 3) && (fast & 3) > 1)
+        return 11;
+    return (opcode >= 7 && opcode <= 14 && fast != 0) || (opcode == 15 && fast != 0xFFFF) ? 11 : 0;
+}
+
+int peer_open(uint32_t taps, const uint8_t *frame, size_t frame_length, uint8_t header[14], uint8_t *area,
+              size_t area_length)
 {
     uint8_t body[2072], word[32];
+    if (taps >> 25 || !(taps & 1))
+        return 1;
+    if (frame_length != FRAME || area_length < AREA)
+        return 2;
     if (memcmp(frame, preamble, 9) != 0)
         return 7;
     memcpy(body, frame + 9, 2072);
@@ -108,10 +124,7 @@ int peer_open(uint32_t taps, const uint8_t frame[FRAME], uint8_t header[14], uin
         return 8;
     if (crc_16(body, 14) != (body[14] << 8 | body[15]))
         return 9;
-    if (!(body[4] & 4) && (body[2] | body[3]) != 0)
-        return 11;
-    int opcode = body[11] & 15, fast = body[12] | body[13] << 8;
-    if (((opcode == 1 || opcode == 3) && (fast & 3) > 1) || (opcode >= 7 && opcode <= 14 && fast != 0) || (opcode == 15 && fast != 0xFFFF))
+    if (peer_field_refusal(body))
         return 11;
     const uint8_t *payload = body + 32;
     if (!peer_are_codewords(payload))

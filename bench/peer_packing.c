@@ -1,4 +1,4 @@
-/* The peer's queue, packing and receiving, by the same rules as the library's. */
+/* The peer's queue, packing and applying, by the same rules as the library's. */
 #include "peer.h"
 
 #include <string.h>
@@ -114,7 +114,7 @@ int peer_next_frame(uint32_t taps, uint8_t *queue, size_t queue_length, struct p
     return 0;
 }
 
-/* ---- receiving */
+/* ---- a frame that was opened */
 
 /* Whether the area follows the packing rules (14), and its first record can be joined to what is held (15). */
 static int area_refusal(const uint8_t area[AREA], size_t held)
@@ -139,7 +139,7 @@ static int area_refusal(const uint8_t area[AREA], size_t held)
     return records ? 0 : 14;
 }
 
-static void join(const uint8_t area[AREA], size_t *held, uint8_t *hold, uint8_t *list, struct peer_received *received)
+static void join(const uint8_t area[AREA], size_t *held, uint8_t *hold, uint8_t *list, struct peer_applied *applied)
 {
     for (size_t at = 0; AREA - at >= 3 && mark_at(area + at) != 0;) {
         size_t mark = mark_at(area + at), length = mark & 0x7FF;
@@ -148,12 +148,12 @@ static void join(const uint8_t area[AREA], size_t *held, uint8_t *hold, uint8_t 
             *held = 0;
         if ((mark & 0x8000) || *held) {
             if (mark & 0x4000) {
-                uint8_t *entry = list + received->listed;
+                uint8_t *entry = list + applied->listed;
                 write_mark(entry, *held + length);
                 memcpy(entry + 2, hold, *held);
                 memcpy(entry + 2 + *held, bytes, length);
-                received->listed += 2 + *held + length;
-                received->packets++;
+                applied->listed += 2 + *held + length;
+                applied->packets++;
                 *held = 0;
             } else {
                 memcpy(hold + *held, bytes, length);
@@ -164,29 +164,25 @@ static void join(const uint8_t area[AREA], size_t *held, uint8_t *hold, uint8_t 
     }
 }
 
-int peer_receive(uint32_t taps, const uint8_t *frame, size_t frame_length, struct peer_receiver *receiver, uint8_t *hold, size_t hold_length, uint8_t *list,
-                 size_t list_length, struct peer_received *received)
+int peer_apply(const uint8_t header[14], const uint8_t *area, size_t area_length, struct peer_receiver *receiver,
+               uint8_t *hold, size_t hold_length, uint8_t *list, size_t list_length, struct peer_applied *applied)
 {
-    if (taps >> 25 || !(taps & 1))
-        return 1;
-    if (frame_length != FRAME || hold_length != HOLD || list_length < LIST)
+    if (area_length != AREA || hold_length != HOLD || list_length < LIST)
         return 2;
     if (receiver->held > 8999)
         return 3;
-    uint8_t header[14], area[AREA];
-    int refusal = peer_open(taps, frame, header, area);
-    if (refusal)
-        return refusal;
+    if (peer_field_refusal(header))
+        return 11;
     uint16_t txfn = (uint16_t)(header[0] | header[1] << 8), missed = receiver->expects ? (uint16_t)(txfn - receiver->expected) : 0;
     size_t held = missed ? 0 : receiver->held;
-    struct peer_received got = {txfn, missed, 0, 0};
+    struct peer_applied got = {missed, 0, 0};
     if ((header[4] & 3) == 1) {
-        refusal = area_refusal(area, held);
+        int refusal = area_refusal(area, held);
         if (refusal)
             return refusal;
         join(area, &held, hold, list, &got);
     }
-    *received = got;
+    *applied = got;
     receiver->expects = 1;
     receiver->expected = (uint16_t)(txfn + 1);
     receiver->held = held;

@@ -34,7 +34,7 @@ int main(void)
 {
     /* README: from here */
     static uint8_t packet[TAQWELIM_PACKET_MAX], queue[TAQWELIM_QUEUE_SIZE], frame[TAQWELIM_FRAME_SIZE];
-    static uint8_t hold[TAQWELIM_HOLD_SIZE], list[TAQWELIM_LIST_MIN];
+    static uint8_t area[TAQWELIM_AREA_SIZE], hold[TAQWELIM_HOLD_SIZE], list[TAQWELIM_LIST_MIN];
     taqwelim_sender sender = taqwelim_fresh_sender();
     taqwelim_receiver receiver = taqwelim_fresh_receiver();
     taqwelim_fields fields = TAQWELIM_FIELDS_WITHOUT_MESSAGE;
@@ -48,13 +48,15 @@ int main(void)
             return EXIT_FAILURE;
         if (!arrives(tick, frame))
             continue;
-        /* the far end receives it, and reads the list of the packets that it completes */
-        taqwelim_receive_answer received = taqwelim_receive(TAQWELIM_TAPS_0_AND_3, frame, sizeof frame, receiver,
-                                                            hold, sizeof hold, list, sizeof list);
-        receiver = received.receiver; /* as it was, where the frame is refused */
-        printf("frame %d: refusal %d, %d missed before it\n", tick, received.refusal, received.missed);
-        for (taqwelim_entry_answer entry = taqwelim_entry(list, received.listed, 0); entry.found;
-             entry = taqwelim_entry(list, received.listed, entry.next))
+        /* the far end opens it and applies what was opened, and reads the list of the packets that it completes */
+        taqwelim_open_answer opened = taqwelim_open(TAQWELIM_TAPS_0_AND_3, frame, sizeof frame, area, sizeof area);
+        taqwelim_apply_answer applied = {.receiver = receiver, .refusal = opened.refusal};
+        if (!opened.refusal)
+            applied = taqwelim_apply(opened.header, area, sizeof area, receiver, hold, sizeof hold, list, sizeof list);
+        receiver = applied.receiver; /* as it was, where either call refuses */
+        printf("frame %d: refusal %d, %d missed before it\n", tick, applied.refusal, applied.missed);
+        for (taqwelim_entry_answer entry = taqwelim_entry(list, applied.listed, 0); entry.found;
+             entry = taqwelim_entry(list, applied.listed, entry.next))
             printf("  packet %c of %zu bytes\n", list[entry.start], entry.length);
     }
     /* README: to here */

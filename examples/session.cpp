@@ -43,19 +43,23 @@ struct arrival {
 };
 
 class far_end {
+    bytes<TAQWELIM_AREA_SIZE> area{};
     bytes<TAQWELIM_HOLD_SIZE> hold{};
     bytes<TAQWELIM_LIST_MIN> list{};
     taqwelim_receiver state = taqwelim_fresh_receiver();
 public:
     arrival receive(const frame &given)
     {
-        const auto answer = taqwelim_receive(TAQWELIM_TAPS_0_AND_3, given.data(), given.size(), state, hold.data(),
-                                             hold.size(), list.data(), list.size());
-        const auto entry_at = [&](auto position) { return taqwelim_entry(list.data(), answer.listed, position); };
-        arrival arrived{answer.refusal, answer.missed, {}};
+        const auto opened = taqwelim_open(TAQWELIM_TAPS_0_AND_3, given.data(), given.size(), area.data(), area.size());
+        if (opened.refusal != TAQWELIM_NOT_REFUSED)
+            return {opened.refusal, 0, {}}; // the state stays as it was
+        const auto applied = taqwelim_apply(opened.header, area.data(), area.size(), state, hold.data(), hold.size(),
+                                            list.data(), list.size());
+        const auto entry_at = [&](auto position) { return taqwelim_entry(list.data(), applied.listed, position); };
+        arrival arrived{applied.refusal, applied.missed, {}};
         for (auto entry = entry_at(0); entry.found; entry = entry_at(entry.next))
             arrived.packets.emplace_back(&list[entry.start], &list[entry.start] + entry.length);
-        state = answer.receiver; // as it was, where the frame is refused
+        state = applied.receiver; // as it was, where what was opened is refused
         return arrived;
     }
 };

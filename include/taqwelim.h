@@ -7,8 +7,8 @@
  *     cc -std=c99 -Iinclude yours.c target/staticlib/libtaqwelim.a
  *
  * How to use it
- *   A state is a small struct, given by value and handed back in the answer. Packets, frames and lists are bytes that
- *   you lend for the time of the call: a pointer, then the length.
+ *   A state is a small struct, given by value and handed back in the answer. Packets, frames, areas and lists are bytes
+ *   that you lend for the time of the call: a pointer, then the length.
  *
  *     uint8_t queue[TAQWELIM_QUEUE_SIZE], frame[TAQWELIM_FRAME_SIZE];
  *     taqwelim_sender sender = taqwelim_fresh_sender();
@@ -20,12 +20,24 @@
  *                                                     frame, sizeof frame);
  *     sender = next.sender;
  *
+ *   At the far end, where the frame arrives:
+ *
+ *     uint8_t area[TAQWELIM_AREA_SIZE], hold[TAQWELIM_HOLD_SIZE], list[TAQWELIM_LIST_MIN];
+ *     taqwelim_receiver receiver = taqwelim_fresh_receiver();
+ *
+ *     taqwelim_open_answer opened = taqwelim_open(TAQWELIM_TAPS_0_AND_3, frame, sizeof frame, area, sizeof area);
+ *     if (!opened.refusal) {
+ *         taqwelim_apply_answer applied = taqwelim_apply(opened.header, area, sizeof area, receiver,
+ *                                                        hold, sizeof hold, list, sizeof list);
+ *         receiver = applied.receiver;
+ *     }
+ *
  *   examples/session.c is a whole program with both ends, and examples/session.cpp is the same in C++.
  *
  * Refusals
  *   Every answer has a refusal's number, 0 for none. A refused call changes no byte that you lent, and hands back the
- *   state that you gave; every other number of its answer is 0. Where several numbers apply, the lowest is given. Each
- *   call below says which numbers it may give, and when; it gives no other.
+ *   state that you gave; every other number of its answer is 0. Each call below lists the numbers that it may give, and
+ *   says when; it gives no other. Where several apply, the first in the order that the call lists is given.
  *
  * What you owe
  *   A pointer with a length above 0 points to that many bytes, which nobody else reads or writes during the call; bytes
@@ -40,7 +52,7 @@
 
 /* ---- the library's version, which stands here alone; the text is "MAJOR.MINOR.PATCH" */
 #define TAQWELIM_VERSION_MAJOR 0
-#define TAQWELIM_VERSION_MINOR 2
+#define TAQWELIM_VERSION_MINOR 3
 #define TAQWELIM_VERSION_PATCH 0
 #define TAQWELIM_VERSION TAQWELIM_VERSION_TEXT(TAQWELIM_VERSION_MAJOR, TAQWELIM_VERSION_MINOR, TAQWELIM_VERSION_PATCH)
 #define TAQWELIM_VERSION_TEXT(major, minor, patch) TAQWELIM_VERSION_TEXT_OF(major, minor, patch)
@@ -50,6 +62,7 @@
 #define TAQWELIM_PACKET_MIN 1
 #define TAQWELIM_PACKET_MAX 9000
 #define TAQWELIM_FRAME_SIZE 2081  /* a frame on the wire; what next_frame writes it to may be longer */
+#define TAQWELIM_AREA_SIZE 1908   /* the data area of a frame; what open writes it to may be longer */
 #define TAQWELIM_HEADER_SIZE 16   /* a bare header */
 #define TAQWELIM_QUEUE_SIZE 32768 /* what is lent for the packets that wait */
 #define TAQWELIM_HOLD_SIZE 9000   /* what is lent for the begun part of a packet */
@@ -59,7 +72,7 @@
  *      call that it makes, and fails where one takes more. What a dynamic linker takes that binds memcpy at its first
  *      call is not in it. */
 #define TAQWELIM_STACK_NEXT_FRAME 10240
-#define TAQWELIM_STACK_RECEIVE 10240
+#define TAQWELIM_STACK_OPEN 8192
 #define TAQWELIM_STACK_OTHERS 512 /* every other call */
 #define TAQWELIM_STACK_MAX 10240  /* every call */
 
@@ -71,7 +84,7 @@
 enum taqwelim_refusal {
     TAQWELIM_NOT_REFUSED = 0,
     TAQWELIM_REFUSED_TAPS = 1,          /* taps at or above 2^25, or tap 0 clear */
-    TAQWELIM_REFUSED_LENGTH = 2,        /* a frame, a bare header or a lent buffer of the wrong length */
+    TAQWELIM_REFUSED_LENGTH = 2,        /* a frame, an area, a bare header or a lent buffer of the wrong length */
     TAQWELIM_REFUSED_STATE = 3,         /* the queue is not whole with this state, or these are no receiver's numbers */
     TAQWELIM_REFUSED_PACKET = 4,        /* a packet of 0 or above 9,000 bytes */
     TAQWELIM_REFUSED_FULL = 5,          /* no room in the queue: used + 2 + length is above 32,768 */
@@ -79,7 +92,7 @@ enum taqwelim_refusal {
     TAQWELIM_REFUSED_PREAMBLE = 7,      /* the preamble differs */
     TAQWELIM_REFUSED_HEADER_CODE = 8,   /* the coded header is no codeword */
     TAQWELIM_REFUSED_HEADER_CRC = 9,    /* the CRC-16 differs */
-    TAQWELIM_REFUSED_FIELD_RULE = 11,   /* a received field is against its rule */
+    TAQWELIM_REFUSED_FIELD_RULE = 11,   /* a received field is against its rule, or no opening gives this header */
     TAQWELIM_REFUSED_PAYLOAD_CODE = 12, /* one of the eight payload words is no codeword */
     TAQWELIM_REFUSED_PAYLOAD_CRC = 13,  /* the CRC-32 differs */
     TAQWELIM_REFUSED_PACKING = 14,      /* a DATA area against the packing rules */
@@ -87,7 +100,7 @@ enum taqwelim_refusal {
     TAQWELIM_REFUSED_LIST_ENTRY = 16    /* a position past the list's end, or no entry stands there */
 };
 
-/* ---- the kind of a frame; of one that is not DATA, receive gives the header alone */
+/* ---- the kind of a frame; of one that is not DATA, apply does not look into the area */
 enum taqwelim_kind {
     TAQWELIM_KIND_IDLE = 0,
     TAQWELIM_KIND_DATA = 1,
@@ -108,7 +121,7 @@ enum taqwelim_opcode {
     TAQWELIM_OPCODE_ABSENT = 15           /* none */
 };
 
-/* A message of the fast channel. A number that the message does not have is 0; otherwise it is refused (6). */
+/* A message of the fast channel. A number that the message does not have is 0, or it is refused (6, by apply 11). */
 typedef struct taqwelim_message {
     uint8_t opcode; /* 0 to 15 */
     uint16_t first;
@@ -221,30 +234,46 @@ TAQWELIM_NO_DISCARD
 taqwelim_next_answer taqwelim_next_frame(uint32_t taps, taqwelim_fields fields, taqwelim_sender sender, uint8_t *queue,
                                          size_t queue_length, uint8_t *out, size_t out_length) TAQWELIM_NO_THROW;
 
-/* ---- receiving */
+/* ---- receiving: a frame is opened to its header and its area, and what was opened is applied to the receiver: once,
+ *      as opened, and before the next frame is opened. Of the two calls the first refusal stands. A frame that either
+ *      refuses leaves receiver, hold and list as they were, the number expected too: it will count as missing. */
 
 /* The state to begin with: no number is expected, and nothing is held. All zeros. */
 taqwelim_receiver taqwelim_fresh_receiver(void) TAQWELIM_NO_THROW;
 
-typedef struct taqwelim_receive_answer {
-    taqwelim_header header;     /* the frame's */
+typedef struct taqwelim_open_answer {
+    taqwelim_header header; /* the frame's; zeros where it is refused, which apply would take for an IDLE frame */
+    uint8_t refusal;
+} taqwelim_open_answer;
+
+/* Opens a frame of 2,081 bytes, whatever its reserved bits. The 1,908 bytes of its data area are written to the front
+ * of area; bytes past them keep their values. No receiver and no hold is lent: to a monitor that wants no more than
+ * headers and areas, this call is enough.
+ * Refuses: 1 the taps; 2 frame_length is not 2,081, or area_length is under 1,908; 7, 8, 9, 11, 12 and 13 what the
+ * frame holds. */
+TAQWELIM_NO_DISCARD
+taqwelim_open_answer taqwelim_open(uint32_t taps, const uint8_t *frame, size_t frame_length, uint8_t *area,
+                                   size_t area_length) TAQWELIM_NO_THROW;
+
+typedef struct taqwelim_apply_answer {
     taqwelim_receiver receiver; /* expects the number after the frame's */
     size_t packets;             /* packets in the list */
     size_t listed;              /* bytes of the list that hold them */
     uint16_t missed;            /* frames missing before this one, modulo 65,536; 0 for the first frame */
     uint8_t refusal;
-} taqwelim_receive_answer;
+} taqwelim_apply_answer;
 
-/* Receives a frame of 2,081 bytes, whatever its reserved bits. The packets that it completes are written to the list
- * from its byte 0 on, to be read by taqwelim_entry over exactly `listed` bytes; the begun part of a packet is kept at
- * the front of the hold. All other bytes of both keep their values. A refused frame leaves everything as it was, the
- * number expected too: it will count as missing.
- * Refuses: 1 the taps; 2 frame_length is not 2,081, hold_length not 9,000, or list_length under 10,907; 3 the numbers
- * of receiver are no state; 7 to 9 and 11 to 15 what the frame holds. */
+/* Applies a frame that was opened: header and area are those that taqwelim_open gave. What open writes to may be longer
+ * than the area; here area_length is exactly 1,908, so you cut it. The packets that the frame completes are written to
+ * the list from its byte 0 on, to be read by taqwelim_entry over exactly `listed` bytes; the begun part of a packet is
+ * kept at the front of the hold. All other bytes of both keep their values.
+ * Refuses: 2 area_length is not 1,908, hold_length not 9,000, or list_length under 10,907; 3 the numbers of receiver
+ * are no state; 11 no opening gives this header, whatever its kind: taqwelim_code_header refuses it with 6; 14 a DATA
+ * area is against the packing rules; 15 its first record is too long for the held part that it continues. */
 TAQWELIM_NO_DISCARD
-taqwelim_receive_answer taqwelim_receive(uint32_t taps, const uint8_t *frame, size_t frame_length,
-                                         taqwelim_receiver receiver, uint8_t *hold, size_t hold_length, uint8_t *list,
-                                         size_t list_length) TAQWELIM_NO_THROW;
+taqwelim_apply_answer taqwelim_apply(taqwelim_header header, const uint8_t *area, size_t area_length,
+                                     taqwelim_receiver receiver, uint8_t *hold, size_t hold_length, uint8_t *list,
+                                     size_t list_length) TAQWELIM_NO_THROW;
 
 typedef struct taqwelim_entry_answer {
     size_t start;  /* the packet is list[start] to list[start + length - 1], */

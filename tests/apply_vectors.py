@@ -1,10 +1,12 @@
-"""The vectors of `apply`, in records of receiver_session.py: the areas of opened frames, of all four types and with any
-header, every refusal of the call alone and with others, and random sessions."""
+"""The vectors of `apply`, in records of receiver_session.py: the areas of opened frames of all four types; every
+refusal of the call alone and with others, also of headers that no opening gives, and behind those of opening; and
+random sessions."""
 
-from itertools import combinations
+from itertools import combinations, product
 
 from coder import codes, frames, packing, receiver
-from header_vectors import KINDS, TYPES, headers_refused, some_header
+from frame_vectors import BENCH_TAPS, OF_THE_FRAME, Sent, damaged, some_damage, whole
+from header_vectors import EDGES, KINDS, TYPES, headers_refused, one_bit_headers, some_header
 from receiver_session import HOLD, LIST, Arrivals
 from receiver_vectors import against_the_rules
 from records import Numbers
@@ -55,7 +57,7 @@ def typed_records():
 
 def edge_records():
     """01, Numbers to try: 65,535 missed, the list of 10,907 bytes, a part of 8,999; a list with room to spare; and
-    headers that no frame can have, which apply does not judge."""
+    headers that only just fit."""
     numbers = Numbers(23)
     arrivals = Arrivals(numbers)
     yield arrivals.begun()
@@ -74,18 +76,22 @@ def edge_records():
         yield arrivals.apply(header, area_of("0772", numbers.bytes(1906)), given=Receiver(expected, 7093))
         assert arrivals.receiver.held == 8999
         yield from arrivals.all_in_full()
-    for header in headers_refused(numbers):
-        yield arrivals.apply(header._replace(type=numbers.below(4)), area_of("C001AA"), given=Receiver(None, 5))
+    for header in [*EDGES, *one_bit_headers()]:
+        yield arrivals.apply(header, area_of("C001AA"), given=Receiver(None, 5))
 
 
 # ---------------------------------------------------------------------------------------------------------------------
-# Refused: 2, 3, 14 and 15, every choice of them together.
+# Refused: the first in the call's order stands.
 
+
+ORDER = [2, 3, 11, 14, 15]
+CHOICES = [choice for count in range(1, 6) for choice in combinations(ORDER, count)]
 
 WRONG_SIZES = [{"length": length} for length in [0, 1907, 1909, 2081, 2100]]
 WRONG_SIZES += [{"hold": length} for length in [0, HOLD - 1, HOLD + 1, HOLD + 12]]
 WRONG_SIZES += [{"listed": length} for length in [0, LIST - 1]]
 WRONG_SIZES += [{"length": 1907, "hold": HOLD - 1}, {"length": 0, "hold": 0, "listed": 0}]
+WRONG_HELDS = [9000, 9001, 2**16, 2**32, 2**63, 2**64 - 1]
 
 
 def wrong_areas(numbers, is_14, is_15):
@@ -97,14 +103,13 @@ def wrong_areas(numbers, is_14, is_15):
 
 
 def choice_records():
-    """The lowest counts. Of another type 14 and 15 never apply."""
+    """Every choice of 2, 3, 14 and 15 together. Of another type 14 and 15 never apply."""
     numbers = Numbers(24)
     arrivals = Arrivals(numbers)
     yield arrivals.begun()
-    choices = [choice for count in range(1, 5) for choice in combinations([2, 3, 14, 15], count)]
-    for choice in choices:
+    for choice in [choice for choice in CHOICES if 11 not in choice]:
         sizes = WRONG_SIZES if 2 in choice else [{}]
-        helds = [9000, 9001, 2**16, 2**32, 2**63, 2**64 - 1] if 3 in choice else [8999]
+        helds = WRONG_HELDS if 3 in choice else [8999]
         wrong = wrong_areas(numbers, 14 in choice, 15 in choice)
         for turn in range(max(len(sizes), len(helds), len(wrong))):
             header = some_header(numbers, frames.DATA, numbers.below(9))
@@ -114,6 +119,50 @@ def choice_records():
             yield arrivals.apply(header, area, choice[0], given, **lent)
             of_other_type = choice[0] if choice[0] < 14 else 0
             yield arrivals.apply(header._replace(type=[0, 2, 3][turn % 3]), area, of_other_type, given, **lent)
+
+
+def misfit_records():
+    """11, a header that no opening gives (02, M-106): each way in which one can misfit, of each type, alone, with each
+    other number and in turn with several. It comes behind 2 and 3, and before the area is looked into."""
+    numbers = Numbers(39)
+    arrivals = Arrivals(numbers)
+    yield arrivals.begun()
+    with_few = [choice for choice in CHOICES if 11 in choice and len(choice) <= 2]
+    with_several = [choice for choice in CHOICES if 11 in choice and len(choice) > 2]
+    for turn, (misfit, frame_type) in enumerate(product(headers_refused(numbers), TYPES)):
+        header = misfit._replace(type=frame_type)
+        for choice in [*with_few, with_several[turn % len(with_several)]]:
+            wrong = wrong_areas(numbers, 14 in choice, 15 in choice)
+            held = WRONG_HELDS[turn % len(WRONG_HELDS)] if 3 in choice else 8999
+            lent = WRONG_SIZES[turn % len(WRONG_SIZES)] if 2 in choice else {}
+            given = Receiver([header.txfn, None][turn % 2], held)
+            yield arrivals.apply(header, wrong[turn % len(wrong)], choice[0], given, **lent)
+
+
+def openings(numbers, sent):
+    """Each refusal of opening, with the taps and the frame that meet it; 0 for none."""
+    frame, damage = sent.frame, some_damage(numbers)
+    yield from [(0, sent.taps, frame), (1, sent.taps - 1, frame), (2, sent.taps, frame[:-1])]
+    for number in OF_THE_FRAME:
+        yield number, sent.taps, damaged(sent, [damage[number]])
+
+
+def opening_records():
+    """Frames opened and applied (02, M-106): each refusal of opening, and none, with every choice of apply's. Opening's
+    stands, and nothing is applied after it."""
+    numbers = Numbers(40)
+    arrivals = Arrivals(numbers)
+    yield arrivals.begun()
+    for is_14, is_15 in product([False, True], repeat=2):
+        area = wrong_areas(numbers, is_14, is_15)[0]
+        sent = Sent(BENCH_TAPS, some_header(numbers, frames.DATA, numbers.below(9)), area)
+        yield from whole(sent, AREA)
+        of_the_area = 14 if is_14 else 15 if is_15 else 0
+        for number, taps, frame in openings(numbers, sent):
+            for held, lent in product([8999, 9000], [{}, {"hold": HOLD - 1}, {"hold": HOLD + 1}, {"listed": LIST - 1}]):
+                of_apply = 2 if lent else 3 if held == 9000 else of_the_area
+                given = Receiver(sent.header.txfn, held)
+                yield arrivals.open_and_apply(taps, sent.frame, frame, number or of_apply, given, **lent)
 
 
 def limit_records():
@@ -162,4 +211,6 @@ def session_records():
             yield from arrivals.read_all()
 
 
-GROUPS = [typed_records, edge_records, choice_records, limit_records, session_records]
+GROUPS = [
+    typed_records, edge_records, choice_records, misfit_records, opening_records, limit_records, session_records,
+]

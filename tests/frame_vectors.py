@@ -224,18 +224,24 @@ def damaged_records():
             yield refused(number, frame, sent.taps, damaged(sent, [damage]))
 
 
-def lowest_records():
-    """Every choice of the numbers from 7 to 13 together: the lowest counts. And 1 and 2 before each of them."""
+def order_records():
+    """Every choice of the numbers from 7 to 13 together: the first in opening's order stands. Nothing is written, also
+    where there is more room. 1 and 2 before each of them, and 1 before 2."""
     numbers = Numbers(11)
     sent = Sent(BENCH_TAPS, some_header(numbers, frames.DATA, 5), numbers.bytes(97))
     frame = sent.frame
     yield from whole(sent, AREA)
+    for length, room in [(FRAME - 1, AREA), (FRAME, AREA - 1), (FRAME - 1, AREA - 1)]:
+        yield refused(1, frame, sent.taps - 1, frame[:length], room)
+        yield refused(2, frame, sent.taps, frame[:length], room)
     for count in range(1, len(OF_THE_FRAME) + 1):
         for choice in combinations(OF_THE_FRAME, count):
             damage = some_damage(numbers)
             found = damaged(sent, [damage[number] for number in choice])
             yield refused(choice[0], frame, sent.taps, found)
             if count == 1:
+                yield refused(choice[0], frame, sent.taps, found, 2000)
+                yield refused(choice[0], frame, sent.taps, found, 2100)
                 yield refused(2, frame, sent.taps, found, AREA - 1)
                 yield refused(2, frame, sent.taps, found[:-1])
                 yield refused(1, frame, sent.taps - 1, found)
@@ -304,4 +310,4 @@ def reserved_records():
         yield refused(8, at_hand, sent.taps, damaged(sent, [("coded", cleared)]))
 
 
-GROUPS = [whole_records, damaged_records, lowest_records, slip_records, reserved_records]
+GROUPS = [whole_records, damaged_records, order_records, slip_records, reserved_records]

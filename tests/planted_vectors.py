@@ -86,8 +86,8 @@ def header_records():
 
 
 def frame_records():
-    """One is said to be refused with 0 and is opened: only what was lent for its area tells. The records of kind 34 change
-    nothing, so that the frame at hand stays; each is wrong in its digest."""
+    """One is said to be refused with 0 and is opened: only what was lent for its area tells. The records of kind 34
+    change nothing, so that the frame at hand stays; each is wrong in its digest."""
     numbers = Numbers(30)
     sent = Sent(BENCH_TAPS, some_header(numbers, frames.DATA, 1), numbers.bytes(30))
     built, opened = whole(sent, AREA)
@@ -130,7 +130,8 @@ def waiting_records():
 
 
 def receiver_records():
-    """Of calls that are accepted, and of such as are refused; of a packet, the list's end and a position that is none."""
+    """Of calls that are accepted, and of such as are refused, a frame by either call; of a packet, the list's end and a
+    position that is none."""
     numbers = Numbers(32)
     arrivals = Arrivals(numbers)
     area = area_of("4003", numbers.bytes(3), "876D", numbers.bytes(1901))
@@ -143,8 +144,8 @@ def receiver_records():
     for given, number in [(no_state, 3), (fits, 0)]:
         applied = partial(arrivals.apply, header, area_of("4003", area[2:5], "C001AA"), number, given)
         yield from wrong_bytes(numbers, applied, range(41, 111))
-        received = partial(arrivals.receive, BENCH_TAPS, frame, frame, number, given)
-        yield from wrong_bytes(numbers, received, range(21, 91))
+        arrived = partial(arrivals.open_and_apply, BENCH_TAPS, frame, frame, number, given)
+        yield from wrong_bytes(numbers, arrived, range(21, 91))
     for position, number in [(0, 0), (105, 0), (1, 16)]:
         read_at = partial(arrivals.read, 105, position, number)
         yield from wrong_bytes(numbers, read_at, range(10, 44))
@@ -152,6 +153,8 @@ def receiver_records():
     yield from wrong_bytes(numbers, arrivals.list_in_full, some_of(0, 105))
     yield from wrong_bytes(numbers, arrivals.hold_in_full, some_of(0, 1901))
     yield from wrong_bytes(numbers, lambda: arrivals.change_list(changed(arrivals.list, 5, 1)), range(8))
+    unopened = partial(arrivals.open_and_apply, BENCH_TAPS, frame, changed(frame, 0, 1), 7, fits)
+    yield from wrong_bytes(numbers, unopened, range(21, 91))
 
 
 GROUPS = [code_records, header_records, frame_records, sender_records, receiver_records, waiting_records]

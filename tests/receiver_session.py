@@ -1,24 +1,27 @@
 """A session with the second coder's receiver, and the records of its calls.
 
-    21  hold and list begun  their seeds 4 and 4; the digests of hold and list
-    22  frame received       taps 4, the state, the lengths of frame, hold and list 2 each; the answer, the digests of
-                             hold and list; changes to the frame at hand, which then arrives
-    23  list changed         the digest of the list after the changes, the changes
-    24  list read            how many bytes are listed 2, the position 8; what stands there, the digest of the packet
-    25  list in full         bytes: the list begins with these
-    26  hold in full         bytes: the hold begins with these
-    27  area applied         the fields, the state, the lengths of area, hold and list 2 each; the answer, the digests of
-                             hold and list; the area
+    21  hold and list begun       their seeds 4 and 4; the digests of hold and list
+    22  frame opened and applied  taps 4, the state, the lengths of frame, hold and list 2 each; the answer, the digests
+                                  of hold and list; changes to the frame at hand, which then arrives
+    23  list changed              the digest of the list after the changes, the changes
+    24  list read                 how many bytes are listed 2, the position 8; what stands there, the digest of the
+                                  packet
+    25  list in full              bytes: the list begins with these
+    26  hold in full              bytes: the hold begins with these
+    27  area applied              the fields, the state, the lengths of area, hold and list 2 each; the answer, the
+                                  digests of hold and list; the area
 
 A state is whether a frame is expected, its number 2, 0 for none, and the bytes held 8. An answer is the refusal's
-number, 0 for none, the fields of the header, all 0 where it is refused and for an area, whose header is given, the
-frames missed 2, the packets 8, the bytes of the list 8, and the state after the call. What stands at a position of the list is the refusal's number, 1 for a
-packet and 0 for none, its place, its length and the position after it, 8 each.
+number, 0 for none, the fields of the header, all 0 where either call refuses, and for an area, whose header is given,
+the frames missed 2, the packets 8, the bytes of the list 8, and the state after the call. What stands at a position of
+the list is the refusal's number, 1 for a packet and 0 for none, its place, its length and the position after it, 8
+each.
 
-Hold and list stay from record to record. They are 9,000 and 10,907 bytes, and 12 and 13 more behind them; a digest is
-of all of them, whatever part a call was lent. The frame at hand is that of frame_vectors.py or of sender_session.py.
-An area is stored without the zeros at its end. What is lent of it is its first bytes; behind one that is too long
-stands what is lent for a frame.
+A frame that arrives is opened into 2,100 bytes that are lent for its area, and their first 1,908 are applied; where
+opening refuses it, nothing is applied. Hold and list stay from record to record. They are 9,000 and 10,907 bytes, and
+12 and 13 more behind them; a digest is of all of them, whatever part a call was lent. The frame at hand is that of
+frame_vectors.py or of sender_session.py. An area is stored without the zeros at its end. What is lent of it is its
+first bytes; behind one that is too long stands what is lent for a frame.
 """
 
 from functools import partial
@@ -68,8 +71,8 @@ class Arrivals:
         return record(21, seeds, digest(self.hold), digest(self.list))
 
     def called(self, call, length, number, given, hold, listed, has_header):
-        """A call with so many bytes, and with the session's own state or another: what the records of both calls have in
-        common."""
+        """A call with so many bytes, and with the session's own state or another: what the records of both kinds have
+        in common."""
         given = self.receiver if given is None else given
         found, self.answer, after, hold_after, list_after = call(given, self.hold[:hold], self.list[:listed])
         assert found == number, (found, number, given)
@@ -80,9 +83,9 @@ class Arrivals:
         answer = answer_of(found, self.answer, after, has_header)
         return state(given) + sizes(length, hold, listed) + answer + digest(self.hold) + digest(self.list)
 
-    def receive(self, taps, at_hand, frame, number=0, given=None, hold=HOLD, listed=LIST):
+    def open_and_apply(self, taps, at_hand, frame, number=0, given=None, hold=HOLD, listed=LIST):
         """A frame arrives, stored by its differences from the one at hand."""
-        call = partial(receiver.receive, taps, frame)
+        call = partial(receiver.open_and_apply, taps, frame)
         rest = self.called(call, len(frame), number, given, hold, listed, True)
         return record(22, taps.to_bytes(4, "big"), rest, changes(at_hand, frame))
 

@@ -23,7 +23,7 @@ def arriving(numbers, arrivals, txfn, area, frame_type=frames.DATA, **given):
     header = some_header(numbers, frame_type, numbers.below(9))._replace(txfn=txfn)
     frame = Sent(BENCH_TAPS, header, area).frame
     yield record(13, BENCH_TAPS.to_bytes(4, "big"), fields(header), frame, area)
-    yield arrivals.receive(BENCH_TAPS, frame, frame, **given)
+    yield arrivals.open_and_apply(BENCH_TAPS, frame, frame, **given)
     if arrivals.answer is not None:
         yield from arrivals.all_in_full()
 
@@ -154,10 +154,10 @@ class Passage:
     def arrives(self, frame=None, number=0, taps=None, **given):
         frame = self.at_hand if frame is None else frame
         taps = self.taps if taps is None else taps
-        return self.arrivals.receive(taps, self.at_hand, frame, number, **given)
+        return self.arrivals.open_and_apply(taps, self.at_hand, frame, number, **given)
 
     def with_damage(self):
-        """One or two of the numbers from 7 to 13: the lowest counts."""
+        """One or two of the numbers from 7 to 13: the first in opening's order stands."""
         damage = some_damage(self.numbers)
         first = self.numbers.below(len(OF_THE_FRAME))
         second = first + self.numbers.below(len(OF_THE_FRAME) - first)
@@ -165,8 +165,9 @@ class Passage:
         return damaged(Sent(self.taps, self.header, self.area), chosen), OF_THE_FRAME[first]
 
     def wrong_argument(self):
-        """1, 2 or 3, of a frame that may be damaged as well; the length of an arrived frame is an argument too."""
-        frame = [self.at_hand, self.with_damage()[0]][self.numbers.below(2)]
+        """1, 2 or 3, of a frame that may be damaged as well. Opening judges taps, length and damage, before applying is
+        asked of hold, list and state (02, M-106)."""
+        frame, damage = [(self.at_hand, 0), self.with_damage()][self.numbers.below(2)]
         held = Receiver(self.header.txfn, [9000, 2**16, 2**64 - 1][self.numbers.below(3)])
         sizes = [{"hold": HOLD - 1}, {"hold": HOLD + 1}, {"hold": 0}, {"listed": LIST - 1}, {"listed": 0}]
         size = sizes[self.numbers.below(5)]
@@ -176,10 +177,10 @@ class Passage:
         if case == 0:
             return self.arrives(frame, 1, taps, given=held, **size)
         if case == 1:
-            return self.arrives(frame, 2, given=held, **size)
+            return self.arrives(frame, damage or 2, given=held, **size)
         if case == 2:
             return self.arrives(other, 2)
-        return self.arrives(frame, 3, given=held)
+        return self.arrives(frame, damage or 3, given=held)
 
     def other_type(self, area=None):
         """Another type, or DATA against the rules."""
@@ -197,8 +198,8 @@ class Passage:
         return (9000 if last else 8999) - len(data)
 
     def arrives_whole(self):
-        """In one of eight the reserved bits are another maker's (02, M-100). Where part of a packet came as another type, the
-        next part may be joined to what was held, and pass 9,000."""
+        """In one of eight the reserved bits are another maker's (02, M-100). Where part of a packet came as another
+        type, the next part may be joined to what was held, and pass 9,000."""
         frame = self.at_hand
         if self.numbers.below(8) == 0:
             frame = with_reserved(self.taps, frame, self.numbers.below(frames.ALL_ONES + 1))

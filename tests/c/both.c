@@ -4,8 +4,9 @@
 #include <stdio.h>
 #include <string.h>
 
-lent queue, packet, out, frame, hold, list, header_bytes;
-unsigned long calls, comparisons, differences, given[17];
+lent queue, packet, out, frame, area_bytes, hold, list, header_bytes;
+unsigned long calls, comparisons, differences, given[NUMBER_OF_CALLS][256];
+unsigned long opened_applied, opened_refused_with_11;
 
 void expect(int same, const char *what)
 {
@@ -66,7 +67,7 @@ static void fill_with_chance(lent *buffer)
 
 void fill_all(void)
 {
-    lent *all[] = {&queue, &packet, &out, &frame, &hold, &list, &header_bytes};
+    lent *all[] = {&queue, &packet, &out, &frame, &area_bytes, &hold, &list, &header_bytes};
     for (size_t i = 0; i < sizeof all / sizeof all[0]; i++)
         fill_with_chance(all[i]);
 }
@@ -82,11 +83,10 @@ void compare_bytes(const lent *buffer, const char *what)
     expect(memcmp(buffer->library, buffer->model, sizeof buffer->library) == 0, what);
 }
 
-uint8_t ended(uint8_t refusal)
+uint8_t ended(enum call call, uint8_t refusal)
 {
     calls++;
-    if (refusal <= 16)
-        given[refusal]++;
+    given[call][refusal]++;
     return refusal;
 }
 
@@ -126,7 +126,7 @@ uint8_t both_put(size_t queue_length, taqwelim_sender *sender, size_t packet_len
     compare_bytes(&queue, "the queue after put");
     compare_bytes(&packet, "the packet after put");
     *sender = a.sender;
-    return ended(a.refusal);
+    return ended(PUT, a.refusal);
 }
 
 uint8_t both_waiting(size_t queue_length, taqwelim_sender sender, taqwelim_waiting_answer *answer)
@@ -136,7 +136,7 @@ uint8_t both_waiting(size_t queue_length, taqwelim_sender sender, taqwelim_waiti
     expect(a.refusal == b.refusal && a.packets == b.packets && a.bytes == b.bytes, "waiting's answer");
     compare_bytes(&queue, "the queue after waiting");
     *answer = a;
-    return ended(a.refusal);
+    return ended(WAITING, a.refusal);
 }
 
 void expect_waiting(taqwelim_sender sender, size_t packets, size_t bytes)
@@ -160,24 +160,57 @@ uint8_t both_next(uint32_t taps, taqwelim_fields fields, taqwelim_sender *sender
         expect_ones(header, "the reserved bits of a frame that is built are ones");
     }
     *sender = a.sender;
-    return ended(a.refusal);
+    return ended(NEXT_FRAME, a.refusal);
 }
 
-uint8_t both_receive(uint32_t taps, size_t frame_length, taqwelim_receiver *receiver, size_t hold_length, size_t list_length, taqwelim_receive_answer *answer)
+uint8_t both_open(uint32_t taps, size_t frame_length, size_t area_length, taqwelim_header *header)
 {
-    taqwelim_receive_answer a = library_receive(taps, to_library(&frame, frame_length), frame_length, *receiver, to_library(&hold, hold_length), hold_length,
-                                                 to_library(&list, list_length), list_length);
-    taqwelim_receive_answer b =
-        model_receive(taps, model_bytes_of(&frame), frame_length, *receiver, model_bytes_of(&hold), hold_length, model_bytes_of(&list), list_length);
-    expect(a.refusal == b.refusal && same_receiver(a.receiver, b.receiver), "receive's state and refusal");
-    expect(a.missed == b.missed && a.packets == b.packets && a.listed == b.listed, "receive's counts");
-    expect(same_header(a.header, b.header), "receive's header");
-    compare_bytes(&frame, "the frame after receive");
-    compare_bytes(&hold, "the hold after receive");
-    compare_bytes(&list, "the list after receive");
+    taqwelim_open_answer a = library_open(taps, to_library(&frame, frame_length), frame_length,
+                                          to_library(&area_bytes, area_length), area_length);
+    taqwelim_open_answer b =
+        model_open(taps, model_bytes_of(&frame), frame_length, model_bytes_of(&area_bytes), area_length);
+    expect(a.refusal == b.refusal, "open's refusal");
+    expect(same_header(a.header, b.header), "open's header");
+    compare_bytes(&frame, "the frame after open");
+    compare_bytes(&area_bytes, "the area after open");
+    *header = a.header;
+    return ended(OPEN, a.refusal);
+}
+
+uint8_t both_apply(taqwelim_header header, size_t area_length, taqwelim_receiver *receiver, size_t hold_length,
+                   size_t list_length, taqwelim_apply_answer *answer)
+{
+    taqwelim_apply_answer a =
+        library_apply(header, to_library(&area_bytes, area_length), area_length, *receiver,
+                      to_library(&hold, hold_length), hold_length, to_library(&list, list_length), list_length);
+    taqwelim_apply_answer b = model_apply(header, model_bytes_of(&area_bytes), area_length, *receiver,
+                                          model_bytes_of(&hold), hold_length, model_bytes_of(&list), list_length);
+    expect(a.refusal == b.refusal && same_receiver(a.receiver, b.receiver), "apply's state and refusal");
+    expect(a.missed == b.missed && a.packets == b.packets && a.listed == b.listed, "apply's counts");
+    compare_bytes(&area_bytes, "the area after apply");
+    compare_bytes(&hold, "the hold after apply");
+    compare_bytes(&list, "the list after apply");
     *receiver = a.receiver;
     *answer = a;
-    return ended(a.refusal);
+    return ended(APPLY, a.refusal);
+}
+
+uint8_t both_apply_opened(taqwelim_header header, size_t area_length, taqwelim_receiver *receiver, size_t hold_length,
+                          size_t list_length, taqwelim_apply_answer *answer)
+{
+    uint8_t refusal = both_apply(header, area_length, receiver, hold_length, list_length, answer);
+    opened_applied++;
+    opened_refused_with_11 += refusal == TAQWELIM_REFUSED_FIELD_RULE;
+    return refusal;
+}
+
+uint8_t both_receive(taqwelim_receiver *receiver, taqwelim_header *header, taqwelim_apply_answer *answer)
+{
+    uint8_t refusal = both_open(TAQWELIM_TAPS_0_AND_3, TAQWELIM_FRAME_SIZE, AREA, header);
+    *answer = (taqwelim_apply_answer){.receiver = *receiver, .refusal = refusal};
+    if (refusal)
+        return refusal;
+    return both_apply_opened(*header, AREA, receiver, TAQWELIM_HOLD_SIZE, TAQWELIM_LIST_MIN, answer);
 }
 
 uint8_t both_entry(size_t list_length, size_t position, taqwelim_entry_answer *answer)
@@ -189,7 +222,7 @@ uint8_t both_entry(size_t list_length, size_t position, taqwelim_entry_answer *a
     expect(place.start == b.start && place.length == b.length, "packet's place");
     compare_bytes(&list, "the list after entry and packet");
     *answer = a;
-    return ended(a.refusal);
+    return ended(ENTRY, a.refusal);
 }
 
 uint8_t both_code(taqwelim_header header, size_t length)
@@ -200,7 +233,7 @@ uint8_t both_code(taqwelim_header header, size_t length)
     compare_bytes(&header_bytes, "the bytes of code_header");
     if (!a.refusal)
         expect_ones(bytes_of(&header_bytes), "the reserved bits of a header that is coded are ones");
-    return ended(a.refusal);
+    return ended(CODE_HEADER, a.refusal);
 }
 
 uint8_t both_read(size_t length, taqwelim_header *header)
@@ -211,5 +244,5 @@ uint8_t both_read(size_t length, taqwelim_header *header)
     expect(same_header(a.header, b.header), "read_header's header");
     compare_bytes(&header_bytes, "the bytes after read_header");
     *header = a.header;
-    return ended(a.refusal);
+    return ended(READ_HEADER, a.refusal);
 }

@@ -14,13 +14,16 @@ typedef struct {
     uint8_t model[AROUND + ROOM + AROUND];
 } lent;
 
-extern lent queue, packet, out, frame, hold, list, header_bytes;
+extern lent queue, packet, out, frame, area_bytes, hold, list, header_bytes;
 
 /* ---- counts */
-extern unsigned long calls, comparisons, differences, given[17]; /* given: calls that ended with each number */
+enum call { PUT, WAITING, NEXT_FRAME, OPEN, APPLY, ENTRY, CODE_HEADER, READ_HEADER, NUMBER_OF_CALLS };
+extern unsigned long calls, comparisons, differences;
+extern unsigned long given[NUMBER_OF_CALLS][256];                 /* how often each call ended with each number */
+extern unsigned long opened_applied, opened_refused_with_11;      /* headers that open gave and apply got */
 
 void expect(int same, const char *what);
-uint8_t ended(uint8_t refusal);                                   /* counts a call; gives the number back */
+uint8_t ended(enum call call, uint8_t refusal);                   /* counts a call; gives the number back */
 int same_sender(taqwelim_sender a, taqwelim_sender b);
 int same_header(taqwelim_header a, taqwelim_header b);
 
@@ -42,10 +45,18 @@ uint8_t both_put(size_t queue_length, taqwelim_sender *sender, size_t packet_len
 uint8_t both_waiting(size_t queue_length, taqwelim_sender sender, taqwelim_waiting_answer *answer);
 void expect_waiting(taqwelim_sender sender, size_t packets, size_t bytes);
 uint8_t both_next(uint32_t taps, taqwelim_fields fields, taqwelim_sender *sender, size_t queue_length, size_t out_length);
-uint8_t both_receive(uint32_t taps, size_t frame_length, taqwelim_receiver *receiver, size_t hold_length, size_t list_length, taqwelim_receive_answer *answer);
+uint8_t both_open(uint32_t taps, size_t frame_length, size_t area_length, taqwelim_header *header);
+uint8_t both_apply(taqwelim_header header, size_t area_length, taqwelim_receiver *receiver, size_t hold_length,
+                   size_t list_length, taqwelim_apply_answer *answer);
+uint8_t both_apply_opened(taqwelim_header header, size_t area_length, taqwelim_receiver *receiver, size_t hold_length,
+                          size_t list_length, taqwelim_apply_answer *answer); /* a header that open gave */
 uint8_t both_entry(size_t list_length, size_t position, taqwelim_entry_answer *answer);
 uint8_t both_code(taqwelim_header header, size_t length);
 uint8_t both_read(size_t length, taqwelim_header *header);
+
+/* ---- the frame at hand received: opened, and what was opened applied. The first refusal stands; where it is open's,
+ *      the answer has the state as it was, and zeros. */
+uint8_t both_receive(taqwelim_receiver *receiver, taqwelim_header *header, taqwelim_apply_answer *answer);
 
 /* ---- the tests */
 void try_numbers(void);

@@ -19,6 +19,12 @@ static size_t some_size(size_t right)
     }
 }
 
+/* For calls that have several sizes, so that not nearly all of them are refused with 2. */
+static size_t mostly(size_t right)
+{
+    return below(4) ? right : some_size(right);
+}
+
 static uint32_t some_taps(void)
 {
     uint32_t taps = (uint32_t)chance() & 0x1FFFFFF;
@@ -59,6 +65,11 @@ static taqwelim_fields some_fields(void)
     f.applies = (uint8_t)(below(20) ? below(8) : below(256));
     f.message = some_message();
     return f;
+}
+
+static taqwelim_header some_header(void)
+{
+    return (taqwelim_header){some_fields(), (uint16_t)chance(), (uint8_t)(below(20) ? below(4) : below(256))};
 }
 
 static void change_a_byte(lent *buffer, size_t within)
@@ -152,11 +163,8 @@ static void make_frame(uint32_t taps)
     set_bytes(&frame, 0, bytes, sizeof bytes);
 }
 
-static void some_receive(void)
+static void break_receiver(void)
 {
-    taqwelim_receive_answer answer;
-    taqwelim_entry_answer entry;
-    uint32_t taps = some_taps();
     if (below(10) == 0)
         receiver.held = below(2) ? 8000 + below(1001) : below(3) ? below(9001) : (size_t)chance();
     if (below(30) == 0)
@@ -165,22 +173,63 @@ static void some_receive(void)
         receiver.expected = (uint16_t)chance();
     if (below(40) == 0)
         receiver = library_fresh_receiver();
+}
+
+/* A header that no frame needs to have, and any area: 11 is for headers that cannot be coded. */
+static void some_apply(taqwelim_apply_answer *answer)
+{
+    uint8_t bytes[AREA];
+    taqwelim_header header = some_header();
+    if (below(6))
+        header.txfn = receiver.expected;
+    some_area(bytes);
+    set_bytes(&area_bytes, 0, bytes, sizeof bytes);
+    both_apply(header, mostly(AREA), &receiver, mostly(TAQWELIM_HOLD_SIZE), mostly(TAQWELIM_LIST_MIN), answer);
+    if (answer->refusal != TAQWELIM_REFUSED_LENGTH && answer->refusal != TAQWELIM_REFUSED_STATE)
+        expect((answer->refusal == TAQWELIM_REFUSED_FIELD_RULE) == (both_code(header, 16) == TAQWELIM_REFUSED_FIELD),
+               "apply refuses with 11 the headers that code_header refuses with 6");
+}
+
+static void some_open(taqwelim_apply_answer *answer)
+{
+    taqwelim_header header;
+    uint32_t taps = some_taps();
     if (model_taps_allowed(taps) && below(20))
         make_frame(taps);
-    both_receive(taps, some_size(TAQWELIM_FRAME_SIZE), &receiver, some_size(TAQWELIM_HOLD_SIZE), some_size(TAQWELIM_LIST_MIN), &answer);
-    if (answer.refusal == 0 && below(4) == 0 && answer.listed > 0)
-        change_a_byte(&list, answer.listed);
+    if (both_open(taps, mostly(TAQWELIM_FRAME_SIZE), mostly(AREA), &header) == 0)
+        both_apply_opened(header, mostly(AREA), &receiver, mostly(TAQWELIM_HOLD_SIZE), mostly(TAQWELIM_LIST_MIN),
+                          answer);
+}
+
+static void some_entries(size_t listed)
+{
+    taqwelim_entry_answer entry;
     size_t position = 0;
+    if (below(4) == 0 && listed > 0)
+        change_a_byte(&list, listed);
     for (int i = 0; i < 4; i++) {
-        both_entry(answer.listed, position, &entry);
+        both_entry(listed, position, &entry);
         position = below(5) ? entry.next : below(20) ? below(ROOM) : (size_t)chance();
     }
 }
 
-static void some_header(void)
+static void some_receive(void)
 {
-    taqwelim_header h = {some_fields(), (uint16_t)chance(), (uint8_t)(below(20) ? below(4) : below(256))}, back;
-    both_code(h, some_size(TAQWELIM_HEADER_SIZE));
+    taqwelim_apply_answer answer = {0};
+    break_receiver();
+    if (below(4))
+        some_open(&answer);
+    else
+        some_apply(&answer);
+    if (answer.refusal == TAQWELIM_REFUSED_STATE && below(2))
+        receiver = library_fresh_receiver();
+    some_entries(answer.listed);
+}
+
+static void code_and_read(void)
+{
+    taqwelim_header back;
+    both_code(some_header(), some_size(TAQWELIM_HEADER_SIZE));
     if (below(3) == 0)
         change_a_byte(&header_bytes, 16);
     if (below(3) == 0) {
@@ -205,6 +254,6 @@ void try_chance(unsigned long rounds)
         some_put();
         both_next(some_taps(), some_fields(), &sender, some_size(TAQWELIM_QUEUE_SIZE), some_size(TAQWELIM_FRAME_SIZE));
         some_receive();
-        some_header();
+        code_and_read();
     }
 }

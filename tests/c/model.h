@@ -5,8 +5,8 @@
 
 #include "../../include/taqwelim.h"
 
-#define AREA 1908          /* a frame's area, */
-#define DATA (AREA + 4)    /* and with its CRC-32 behind it */
+#define AREA TAQWELIM_AREA_SIZE
+#define DATA (AREA + 4) /* an area with its CRC-32 behind it */
 #define RECORD_FIRST 0x8000
 #define RECORD_LAST 0x4000
 
@@ -22,13 +22,13 @@ int model_taps_allowed(uint32_t taps);
 
 /* ---- headers and frames (model_frames.c) */
 int model_fields_fit(taqwelim_fields fields);
+int model_header_fits(taqwelim_header header);
 void model_header_bytes(taqwelim_header header, uint8_t *bytes);
 uint8_t model_header_refusal(const uint8_t *bytes);
 taqwelim_header model_header_of(const uint8_t *bytes);
 void model_seal_header(uint8_t *bytes);
 void model_frame(uint32_t taps, const uint8_t *header, const uint8_t *data, uint8_t *frame);
 void model_data(const uint8_t *area, uint8_t *data);
-uint8_t model_open(uint32_t taps, const uint8_t *frame, uint8_t *header, uint8_t *area);
 
 /* ---- parts of the calls (model_link.c) */
 void model_put_mark(uint8_t *bytes, unsigned mark);
@@ -36,13 +36,16 @@ size_t model_count(const uint8_t *laid, size_t used);
 size_t model_fill(uint8_t *area, uint8_t *laid, size_t used);
 void model_write_round(uint8_t *queue, size_t start, const uint8_t *bytes, size_t length);
 
-/* ---- the calls (model_link.c) */
+/* ---- the calls (model_link.c, and open in model_frames.c) */
 taqwelim_put_answer model_put(uint8_t *queue, size_t queue_length, taqwelim_sender sender, const uint8_t *packet, size_t packet_length);
 taqwelim_waiting_answer model_waiting(const uint8_t *queue, size_t queue_length, taqwelim_sender sender);
 taqwelim_next_answer model_next_frame(uint32_t taps, taqwelim_fields fields, taqwelim_sender sender, uint8_t *queue, size_t queue_length, uint8_t *out,
                                       size_t out_length);
-taqwelim_receive_answer model_receive(uint32_t taps, const uint8_t *frame, size_t frame_length, taqwelim_receiver receiver, uint8_t *hold, size_t hold_length,
-                                      uint8_t *list, size_t list_length);
+taqwelim_open_answer model_open(uint32_t taps, const uint8_t *frame, size_t frame_length, uint8_t *area,
+                                size_t area_length);
+taqwelim_apply_answer model_apply(taqwelim_header header, const uint8_t *area, size_t area_length,
+                                  taqwelim_receiver receiver, uint8_t *hold, size_t hold_length, uint8_t *list,
+                                  size_t list_length);
 taqwelim_entry_answer model_entry(const uint8_t *list, size_t list_length, size_t position);
 taqwelim_code_answer model_code_header(taqwelim_header header, uint8_t *out, size_t out_length);
 taqwelim_read_answer model_read_header(const uint8_t *bytes, size_t length);

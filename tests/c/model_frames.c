@@ -1,4 +1,4 @@
-/* The model's headers and frames, both ways (paper 01, "The frame on the wire"). */
+/* The model's headers and frames, both ways (paper 01, "The frame on the wire"; paper 02, M-100 and M-106). */
 #include "model.h"
 
 #include <string.h>
@@ -30,6 +30,12 @@ static int message_fits(taqwelim_message m)
 int model_fields_fit(taqwelim_fields f)
 {
     return f.ack <= 1 && f.valid <= 1 && (f.valid || f.rxfn == 0) && f.stamp >> 40 == 0 && f.seconds < 64 && f.applies < 8 && message_fits(f.message);
+}
+
+/* Whether some frame has this header: no other can be coded, and opening gives no other. */
+int model_header_fits(taqwelim_header h)
+{
+    return h.kind <= 3 && model_fields_fit(h.fields);
 }
 
 static unsigned payload_of(taqwelim_message m)
@@ -134,16 +140,13 @@ void model_frame(uint32_t taps, const uint8_t *header, const uint8_t *data, uint
     model_scramble(taps, body, 2072);
 }
 
-/* Opens 2,081 bytes with taps that are allowed: 0, or 7 to 9 and 11 to 13. */
-uint8_t model_open(uint32_t taps, const uint8_t *frame, uint8_t *header, uint8_t *area)
+/* 7 to 9 and 11 to 13, of the preamble and of what is behind it without the scrambler's bits; 0 for none. */
+static uint8_t frame_refusal(const uint8_t *frame, const uint8_t *body)
 {
-    uint8_t body[2072];
     const uint8_t *payload = body + 32;
     uint8_t refusal;
     if (memcmp(frame, preamble, 9))
         return 7;
-    memcpy(body, frame + 9, sizeof body);
-    model_scramble(taps, body, sizeof body);
     if (!model_is_codeword(body, 16, body + 16, 1))
         return 8;
     refusal = model_header_refusal(body);
@@ -152,9 +155,26 @@ uint8_t model_open(uint32_t taps, const uint8_t *frame, uint8_t *header, uint8_t
     for (size_t word = 0; word < 8; word++)
         if (!model_is_codeword(payload + word, DATA / 8, payload + DATA + word, 8))
             return 12;
-    if (model_crc_32(payload, DATA))
-        return 13;
-    memcpy(header, body, 16);
-    memcpy(area, payload, AREA);
-    return 0;
+    return model_crc_32(payload, DATA) ? 13 : 0;
+}
+
+taqwelim_open_answer model_open(uint32_t taps, const uint8_t *frame, size_t frame_length, uint8_t *area,
+                                size_t area_length)
+{
+    taqwelim_open_answer answer = {0};
+    uint8_t body[2072];
+    if (!model_taps_allowed(taps))
+        answer.refusal = 1;
+    else if (frame_length != TAQWELIM_FRAME_SIZE || area_length < AREA)
+        answer.refusal = 2;
+    if (answer.refusal)
+        return answer;
+    memcpy(body, frame + 9, sizeof body);
+    model_scramble(taps, body, sizeof body);
+    answer.refusal = frame_refusal(frame, body);
+    if (answer.refusal)
+        return answer;
+    answer.header = model_header_of(body);
+    memcpy(area, body + 32, AREA);
+    return answer;
 }

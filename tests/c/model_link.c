@@ -1,4 +1,4 @@
-/* The model's sending and receiving (paper 01, "Packing, the bench's own"; paper 02, M-105). */
+/* The model's sending and receiving (paper 01, "Packing, the bench's own"; paper 02, M-105 and M-106). */
 #include "model.h"
 
 #include <string.h>
@@ -151,7 +151,7 @@ taqwelim_next_answer model_next_frame(uint32_t taps, taqwelim_fields fields, taq
     return answer;
 }
 
-/* ---- the area of a frame received */
+/* ---- the area of a frame that was opened */
 
 static int are_zeros(const uint8_t *bytes, size_t length)
 {
@@ -190,7 +190,7 @@ static uint8_t area_refusal(const uint8_t *area, size_t held)
     return !(mark & RECORD_FIRST) && held > 0 && held + length > (mark & RECORD_LAST ? 9000u : 8999u) ? 15 : 0;
 }
 
-static void join(const uint8_t *area, taqwelim_receive_answer *answer, uint8_t *hold, uint8_t *list)
+static void join(const uint8_t *area, taqwelim_apply_answer *answer, uint8_t *hold, uint8_t *list)
 {
     size_t at = 0, held = answer->receiver.held;
     for (unsigned mark; (mark = record_at(area, at)) != 0;) {
@@ -217,28 +217,25 @@ static void join(const uint8_t *area, taqwelim_receive_answer *answer, uint8_t *
     answer->receiver.held = held;
 }
 
-taqwelim_receive_answer model_receive(uint32_t taps, const uint8_t *frame, size_t frame_length, taqwelim_receiver receiver, uint8_t *hold, size_t hold_length,
-                                      uint8_t *list, size_t list_length)
+taqwelim_apply_answer model_apply(taqwelim_header header, const uint8_t *area, size_t area_length,
+                                  taqwelim_receiver receiver, uint8_t *hold, size_t hold_length, uint8_t *list,
+                                  size_t list_length)
 {
-    taqwelim_receive_answer refused = {0}, answer = {0};
-    uint8_t header[16], area[AREA];
+    taqwelim_apply_answer refused = {0}, answer = {0};
     refused.receiver = receiver;
-    if (!model_taps_allowed(taps))
-        refused.refusal = 1;
-    else if (frame_length != TAQWELIM_FRAME_SIZE || hold_length != TAQWELIM_HOLD_SIZE || list_length < TAQWELIM_LIST_MIN)
+    if (area_length != AREA || hold_length != TAQWELIM_HOLD_SIZE || list_length < TAQWELIM_LIST_MIN)
         refused.refusal = 2;
     else if (receiver.held > 8999 || receiver.expects > 1 || (receiver.expects == 0 && receiver.expected != 0))
         refused.refusal = 3;
-    else
-        refused.refusal = model_open(taps, frame, header, area);
+    else if (!model_header_fits(header))
+        refused.refusal = 11;
     if (refused.refusal)
         return refused;
-    answer.header = model_header_of(header);
-    answer.missed = receiver.expects ? (uint16_t)(answer.header.txfn - receiver.expected) : 0;
+    answer.missed = receiver.expects ? (uint16_t)(header.txfn - receiver.expected) : 0;
     answer.receiver.held = answer.missed ? 0 : receiver.held;
     answer.receiver.expects = 1;
-    answer.receiver.expected = (uint16_t)(answer.header.txfn + 1);
-    if (answer.header.kind == TAQWELIM_KIND_DATA) {
+    answer.receiver.expected = (uint16_t)(header.txfn + 1);
+    if (header.kind == TAQWELIM_KIND_DATA) {
         refused.refusal = area_refusal(area, answer.receiver.held);
         if (refused.refusal)
             return refused;
@@ -271,7 +268,7 @@ taqwelim_code_answer model_code_header(taqwelim_header header, uint8_t *out, siz
     taqwelim_code_answer answer = {0};
     if (out_length != TAQWELIM_HEADER_SIZE)
         answer.refusal = 2;
-    else if (header.kind > 3 || !model_fields_fit(header.fields))
+    else if (!model_header_fits(header))
         answer.refusal = 6;
     else
         model_header_bytes(header, out);

@@ -41,8 +41,8 @@ static void headers(void)
 static const uint8_t *area_sent(uint32_t with)
 {
     static uint8_t area[AREA];
-    uint8_t header[16];
-    expect(model_open(with, bytes_of(&out), header, area) == 0, "a frame that was sent is opened");
+    taqwelim_open_answer opened = model_open(with, bytes_of(&out), TAQWELIM_FRAME_SIZE, area, sizeof area);
+    expect(opened.refusal == 0, "a frame that was sent is opened");
     return area;
 }
 
@@ -130,32 +130,39 @@ static void filling(size_t start)
     expect(both_put(TAQWELIM_QUEUE_SIZE, &full, 5760) == 0 && full.used == 32768, "a fourth of 5,760");
 }
 
+/* The frame that was sent arrives. */
+static void receive_sent(taqwelim_receiver *receiver, taqwelim_header *header, taqwelim_apply_answer *answer)
+{
+    set_bytes(&frame, 0, bytes_of(&out), TAQWELIM_FRAME_SIZE);
+    expect(both_receive(receiver, header, answer) == 0, "a frame that was sent is received");
+}
+
 static void receiving(void)
 {
     taqwelim_sender s = library_fresh_sender();
     taqwelim_receiver r = library_fresh_receiver();
-    taqwelim_receive_answer answer;
+    taqwelim_header header;
+    taqwelim_apply_answer answer;
     taqwelim_entry_answer entry;
     expect(s.start == 0 && s.used == 0 && s.next == 0 && r.held == 0 && r.expects == 0 && r.expected == 0, "fresh states are zeros");
     next_area(&s);
-    set_bytes(&frame, 0, bytes_of(&out), TAQWELIM_FRAME_SIZE);
-    expect(both_receive(taps, 2081, &r, 9000, 10907, &answer) == 0, "the example's first frame");
-    expect(answer.header.txfn == 0 && answer.header.kind == TAQWELIM_KIND_IDLE && answer.missed == 0 && answer.packets == 0, "0 0 idle 0 0");
+    receive_sent(&r, &header, &answer);
+    expect(header.txfn == 0 && header.kind == TAQWELIM_KIND_IDLE, "the example's first frame: 0 idle");
+    expect(answer.missed == 0 && answer.packets == 0, "the example's first frame: 0 0");
     set_byte(&packet, 0, 0xAA);
     put_all(&s, (size_t[]){1, 0});
     next_area(&s);
-    set_bytes(&frame, 0, bytes_of(&out), TAQWELIM_FRAME_SIZE);
-    expect(both_receive(taps, 2081, &r, 9000, 10907, &answer) == 0, "the example's second frame");
-    expect(answer.header.txfn == 1 && answer.header.kind == TAQWELIM_KIND_DATA && answer.missed == 0 && answer.packets == 1, "1 1 data 0 1");
+    receive_sent(&r, &header, &answer);
+    expect(header.txfn == 1 && header.kind == TAQWELIM_KIND_DATA, "the example's second frame: 1 data");
+    expect(answer.missed == 0 && answer.packets == 1, "the example's second frame: 0 1");
     expect(both_entry(answer.listed, 0, &entry) == 0 && entry.found && entry.length == 1 && bytes_of(&list)[entry.start] == 0xAA, "the packet AA");
     expect(both_entry(answer.listed, entry.next, &entry) == 0 && !entry.found, "the end of the list");
     s.next = 65535;
     next_area(&s);
     expect(s.next == 0, "65,535 is followed by 0");
-    set_bytes(&frame, 0, bytes_of(&out), TAQWELIM_FRAME_SIZE);
-    r = library_fresh_receiver();
-    r.expects = 1;
-    expect(both_receive(taps, 2081, &r, 9000, 10907, &answer) == 0 && answer.missed == 65535, "expected 0, arrived 65,535");
+    r = (taqwelim_receiver){0, 0, 1};
+    receive_sent(&r, &header, &answer);
+    expect(answer.missed == 65535, "expected 0, arrived 65,535");
 }
 
 void try_numbers(void)

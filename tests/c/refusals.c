@@ -1,5 +1,6 @@
-/* Every refusal number of every call, by itself and against the others of its call: the lowest is given, and no state and no byte changes. Here those of
- * sending and of coding a header; of receiving and reading in refusals_received.c. */
+/* Every refusal number of every call, by itself and against the others of its call: the first in the call's order is
+ * given, and no state and no byte changes. Here those of sending and of coding a header; of open in refusals_opening.c,
+ * of apply in refusals_applying.c, of the two one after the other and of reading in refusals_received.c. */
 #include "refusals.h"
 
 #include <string.h>
@@ -8,20 +9,46 @@ static const uint32_t taps = TAQWELIM_TAPS_0_AND_3;
 
 /* ---- all that is lent, before a call and after it */
 
-static lent *const all[] = {&queue, &packet, &out, &frame, &hold, &list, &header_bytes};
-static lent before[7];
+static lent *const all[] = {&queue, &packet, &out, &frame, &area_bytes, &hold, &list, &header_bytes};
+enum { LENT = sizeof all / sizeof all[0] };
+static lent before[LENT];
 
 void keep(void)
 {
-    for (int i = 0; i < 7; i++)
+    for (int i = 0; i < LENT; i++)
         before[i] = *all[i];
 }
 
 void refused(uint8_t number, uint8_t wanted, const char *what)
 {
     expect(number == wanted, what);
-    for (int i = 0; i < 7; i++)
+    for (int i = 0; i < LENT; i++)
         expect(memcmp(all[i], &before[i], sizeof(lent)) == 0, what);
+}
+
+/* What was written is looked at and undone, so that `refused` can say that it was all. */
+void written(lent *buffer, const uint8_t *bytes, size_t length)
+{
+    int i = 0;
+    while (all[i] != buffer)
+        i++;
+    expect(memcmp(bytes_of(buffer), bytes, length) == 0, "what a call writes to the front of what is lent");
+    set_bytes(buffer, 0, before[i].library + AROUND, length);
+}
+
+unsigned choice_of(const uint8_t *order, unsigned which)
+{
+    unsigned wrong = 0;
+    for (; *order; order++, which >>= 1)
+        wrong |= which & 1 ? WRONG(*order) : 0;
+    return wrong;
+}
+
+uint8_t first_of(const uint8_t *order, unsigned wrong)
+{
+    while (*order && !(wrong & WRONG(*order)))
+        order++;
+    return *order;
 }
 
 taqwelim_fields good_fields(void)
@@ -125,7 +152,8 @@ static void next(void)
     next_refused(TAQWELIM_REFUSED_FIELD, taps, bad, empty, 32768, 2081);
 }
 
-/* Every field that C can get wrong, in a frame and in a bare header: 6, and nothing is undefined. */
+/* Every field that C can get wrong, in a frame and in a bare header: 6, and where it is to be applied, of any kind, 11.
+ * Nothing is undefined. */
 static void field_refused(taqwelim_fields fields)
 {
     taqwelim_header header = {fields, 9, TAQWELIM_KIND_DATA};
@@ -133,6 +161,8 @@ static void field_refused(taqwelim_fields fields)
     keep();
     refused(both_code(header, 16), TAQWELIM_REFUSED_FIELD, "code_header is refused");
     refused(both_code(header, 15), TAQWELIM_REFUSED_LENGTH, "code_header is refused for its length first");
+    for (header.kind = 0; header.kind < 4; header.kind++)
+        header_refused(header);
 }
 
 static void fields(void)
@@ -149,6 +179,7 @@ static void fields(void)
         f = good, f.valid = (uint8_t)bad, field_refused(f);
     }
     f = good, f.valid = 0, field_refused(f);
+    f = good, f.valid = 0, f.rxfn = 1, field_refused(f);
     f = good, f.stamp = UINT64_C(1) << 40, field_refused(f);
     f = good, f.stamp = UINT64_MAX, field_refused(f);
     f = good, f.seconds = 64, field_refused(f);
@@ -160,6 +191,7 @@ static void fields(void)
         taqwelim_header header = {good, 9, (uint8_t)kind};
         keep();
         refused(both_code(header, 16), TAQWELIM_REFUSED_FIELD, "a kind above 3");
+        header_refused(header);
     }
 }
 
@@ -169,5 +201,7 @@ void try_refusals(void)
     put();
     next();
     fields();
+    try_opening_refusals();
+    try_applying_refusals();
     try_received_refusals();
 }

@@ -14,7 +14,7 @@ enum {
 };
 
 /* The seed was tried until none of so many frames left the start at 0. Fewer than the least need not meet every case. */
-static const uint64_t seed = UINT64_C(20261143);
+static const uint64_t seed = UINT64_C(0x4B4C3C1004E5DDC9);
 enum { NEVER_0 = 100000, LEAST = 3000 };
 
 static taqwelim_sender sender; /* the library's; its ring is `queue` */
@@ -79,7 +79,8 @@ static void compare_waiting(void)
 {
     size_t packets = model_count(moved.queue, moved.used);
     taqwelim_waiting_answer answer = library_waiting(bytes_of(&queue), SIZE, sender);
-    expect(ended(answer.refusal) == 0 && answer.packets == packets && answer.bytes == moved.used - 2 * packets, "what waits, with a ring and without");
+    expect(ended(WAITING, answer.refusal) == 0 && answer.packets == packets && answer.bytes == moved.used - 2 * packets,
+           "what waits, with a ring and without");
     compare_bytes(&queue, "waiting writes nothing");
 }
 
@@ -88,7 +89,7 @@ static void put_some(void)
     size_t length = some_length(), behind = sender.start + sender.used, before = moved.used;
     const uint8_t *bytes = bytes_of(&packet) + below(ROOM - TAQWELIM_PACKET_MAX); /* so that packets differ */
     taqwelim_put_answer answer = library_put(bytes_of(&queue), SIZE, sender, bytes, length);
-    expect(ended(answer.refusal) == put_moved(bytes, length), "the answer to a put, with a ring and without");
+    expect(ended(PUT, answer.refusal) == put_moved(bytes, length), "the answer to a put, with a ring and without");
     expect(same_sender(answer.sender, (taqwelim_sender){sender.start, moved.used, sender.next}), "the state after a put");
     model_write_round(model_bytes_of(&queue), behind, moved.queue + before, moved.used - before);
     compare_bytes(&queue, "put writes mark and packet, and nothing else");
@@ -117,7 +118,7 @@ static void send_frame(unsigned long number)
     build_moved(header);
     size_t start = (sender.start + sender.used - moved.used) % SIZE;
     int is_cut = moved.used > 0 && moved.queue[0] >= 0x80;
-    expect(ended(answer.refusal) == 0 && answer.kind == header.kind, "a frame is built, and of which kind");
+    expect(ended(NEXT_FRAME, answer.refusal) == 0 && answer.kind == header.kind, "a frame is built, and of which kind");
     expect(same_sender(answer.sender, (taqwelim_sender){start, moved.used, (uint16_t)(sender.next + 1)}), "the state after a frame");
     expect(start != 0 || number >= NEVER_0, "the start is never 0");
     compare_bytes(&out, "a frame, with a ring and without");
@@ -133,8 +134,8 @@ static void send_frame(unsigned long number)
 
 void try_ring(unsigned long frames)
 {
-    begin_chance(seed);
     fill_all();
+    begin_chance(seed); /* behind the filling, so that a buffer more changes no length */
     sender = (taqwelim_sender){FIRST_START, 0, 0};
     moved.used = 0;
     for (unsigned long k = 0; k < frames; k++) {

@@ -6,7 +6,7 @@
 #include <stdio.h>
 #include <string.h>
 
-enum { PACKETS = 20000, IN_A_FRAME = 700 };
+enum { PACKETS = 20000, IN_A_FRAME = 700, FIRST_NUMBER = 62000 /* so that the numbers wrap on the way */ };
 
 static struct {
     size_t length;
@@ -88,7 +88,7 @@ static taqwelim_fields some_fields(void)
 }
 
 /* The list is read packet by packet, and is just what the ledger says; how many packets that were. */
-static unsigned long compare_list(taqwelim_receive_answer answer, unsigned long lost_before)
+static unsigned long compare_list(taqwelim_apply_answer answer, unsigned long lost_before)
 {
     taqwelim_entry_answer entry;
     size_t position = 0, found = 0;
@@ -110,14 +110,25 @@ static unsigned long compare_list(taqwelim_receive_answer answer, unsigned long 
     return found;
 }
 
+/* Now and then a bit of the frame that arrives is turned; whether it was. */
+static int is_damaged(void)
+{
+    if (below(50))
+        return 0;
+    size_t at = below(TAQWELIM_FRAME_SIZE);
+    set_byte(&frame, at, bytes_of(&frame)[at] ^ (uint8_t)(1u << below(8)));
+    return 1;
+}
+
 void try_session(unsigned long frames)
 {
     unsigned long lost = 0, damaged = 0, delivered = 0, accepted = 0, after_lost = 0, last_accepted = 0;
     int shaken = 0;
     taqwelim_sender sender = library_fresh_sender();
     taqwelim_receiver receiver = library_fresh_receiver();
-    taqwelim_receive_answer answer;
-    sender.next = 62000; /* so that the numbers wrap on the way */
+    taqwelim_header header;
+    taqwelim_apply_answer answer;
+    sender.next = FIRST_NUMBER;
     fill_all();
     for (unsigned long k = 0; k < frames; k++) {
         put_some(&sender);
@@ -130,15 +141,14 @@ void try_session(unsigned long frames)
             continue;
         }
         set_bytes(&frame, 0, bytes_of(&out), TAQWELIM_FRAME_SIZE);
-        if (below(50) == 0) {
-            size_t at = below(TAQWELIM_FRAME_SIZE);
-            set_byte(&frame, at, bytes_of(&frame)[at] ^ (uint8_t)(1u << below(8)));
+        if (is_damaged()) {
             damaged++;
             after_lost = k + 1;
-            expect(both_receive(TAQWELIM_TAPS_0_AND_3, 2081, &receiver, 9000, 10907, &answer) != 0, "a damaged frame is refused");
+            expect(both_receive(&receiver, &header, &answer) != 0, "a damaged frame is refused");
             continue;
         }
-        expect(both_receive(TAQWELIM_TAPS_0_AND_3, 2081, &receiver, 9000, 10907, &answer) == 0, "a whole frame is accepted");
+        expect(both_receive(&receiver, &header, &answer) == 0, "a whole frame is accepted");
+        expect(header.txfn == (uint16_t)(FIRST_NUMBER + k), "the header has the frame's number");
         expect(answer.missed == (accepted ? k - last_accepted - 1 : 0), "the missed count is the number of frames lost");
         accepted++;
         last_accepted = k;

@@ -23,7 +23,8 @@ static struct {
         taqwelim_waiting_answer waiting;
         taqwelim_next_answer next_frame;
         taqwelim_receiver fresh_receiver;
-        taqwelim_receive_answer receive;
+        taqwelim_open_answer open;
+        taqwelim_apply_answer apply;
         taqwelim_entry_answer entry;
         taqwelim_place packet;
         taqwelim_code_answer code_header;
@@ -59,9 +60,15 @@ static void fresh_receiver(void)
     it.answer.fresh_receiver = taqwelim_fresh_receiver();
 }
 
-static void receive(void)
+static void open_frame(void)
 {
-    it.answer.receive = taqwelim_receive(it.taps, it.bytes, it.length, it.receiver, it.hold, it.hold_length, it.list, it.list_length);
+    it.answer.open = taqwelim_open(it.taps, it.bytes, it.length, it.out, it.out_length);
+}
+
+static void apply_opened(void)
+{
+    it.answer.apply = taqwelim_apply(it.header, it.bytes, it.length, it.receiver, it.hold, it.hold_length, it.list,
+                                     it.list_length);
 }
 
 static void entry(void)
@@ -104,7 +111,8 @@ static struct stack {
     {"waiting", waiting, TAQWELIM_STACK_OTHERS, {0}},
     {"next_frame", next_frame, TAQWELIM_STACK_NEXT_FRAME, {0}},
     {"fresh_receiver", fresh_receiver, TAQWELIM_STACK_OTHERS, {0}},
-    {"receive", receive, TAQWELIM_STACK_RECEIVE, {0}},
+    {"open", open_frame, TAQWELIM_STACK_OPEN, {0}},
+    {"apply", apply_opened, TAQWELIM_STACK_OTHERS, {0}},
     {"entry", entry, TAQWELIM_STACK_OTHERS, {0}},
     {"packet", packet_place, TAQWELIM_STACK_OTHERS, {0}},
     {"code_header", code_header, TAQWELIM_STACK_OTHERS, {0}},
@@ -196,13 +204,22 @@ taqwelim_receiver library_fresh_receiver(void)
     return it.answer.fresh_receiver;
 }
 
-taqwelim_receive_answer library_receive(uint32_t taps, const uint8_t *frame, size_t frame_length, taqwelim_receiver receiver, uint8_t *hold,
-                                        size_t hold_length, uint8_t *list, size_t list_length)
+taqwelim_open_answer library_open(uint32_t taps, const uint8_t *frame, size_t frame_length, uint8_t *area,
+                                  size_t area_length)
 {
-    it.taps = taps, it.bytes = frame, it.length = frame_length, it.receiver = receiver;
+    it.taps = taps, it.bytes = frame, it.length = frame_length, it.out = area, it.out_length = area_length;
+    make(open_frame);
+    return it.answer.open;
+}
+
+taqwelim_apply_answer library_apply(taqwelim_header header, const uint8_t *area, size_t area_length,
+                                    taqwelim_receiver receiver, uint8_t *hold, size_t hold_length, uint8_t *list,
+                                    size_t list_length)
+{
+    it.header = header, it.bytes = area, it.length = area_length, it.receiver = receiver;
     it.hold = hold, it.hold_length = hold_length, it.list = list, it.list_length = list_length;
-    make(receive);
-    return it.answer.receive;
+    make(apply_opened);
+    return it.answer.apply;
 }
 
 taqwelim_entry_answer library_entry(const uint8_t *list, size_t list_length, size_t position)

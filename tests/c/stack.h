@@ -13,8 +13,11 @@ taqwelim_waiting_answer library_waiting(const uint8_t *queue, size_t queue_lengt
 taqwelim_next_answer library_next_frame(uint32_t taps, taqwelim_fields fields, taqwelim_sender sender, uint8_t *queue, size_t queue_length, uint8_t *out,
                                         size_t out_length);
 taqwelim_receiver library_fresh_receiver(void);
-taqwelim_receive_answer library_receive(uint32_t taps, const uint8_t *frame, size_t frame_length, taqwelim_receiver receiver, uint8_t *hold,
-                                        size_t hold_length, uint8_t *list, size_t list_length);
+taqwelim_open_answer library_open(uint32_t taps, const uint8_t *frame, size_t frame_length, uint8_t *area,
+                                  size_t area_length);
+taqwelim_apply_answer library_apply(taqwelim_header header, const uint8_t *area, size_t area_length,
+                                    taqwelim_receiver receiver, uint8_t *hold, size_t hold_length, uint8_t *list,
+                                    size_t list_length);
 taqwelim_entry_answer library_entry(const uint8_t *list, size_t list_length, size_t position);
 taqwelim_place library_packet(const uint8_t *list, size_t list_length, size_t position);
 taqwelim_code_answer library_code_header(taqwelim_header header, uint8_t *out, size_t out_length);

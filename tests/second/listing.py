@@ -22,7 +22,7 @@ def listing(data, taps=0b1001):
     output = bytes(receiver.LIST_OUTPUT)
     pieces = [data[start:start + frames.FRAME] for start in range(0, len(data), frames.FRAME)]
     for place, piece in enumerate(pieces):
-        number, answer, state, hold, output = receiver.receive(taps, piece, state, hold, output)
+        number, answer, state, hold, output = receiver.open_and_apply(taps, piece, state, hold, output)
         if number != 0:
             lines.append(f"{place} refused {number}")
         else:

@@ -1,18 +1,21 @@
-"""The receiving end: one frame per call, packets put together again and listed, and the list read.
+"""The receiving end: opened frames applied, their packets put together again and listed. entries.py reads the list.
 
-"01" is the scope paper, "R" and a number a point of READINGS.
+"01" is the scope paper, "02" the paper of change requests, "R" and a number a point of READINGS.
 """
 
+from itertools import combinations, product
 from typing import NamedTuple, Optional
 
 import codes
+import entries
 import frames
 import packing
+# These belong to the interface of this module, though they are defined beside the list's reading.
+from entries import LENGTH, entry, packet, packets_of  # noqa: F401
 
 HOLD = 9000  # bytes of the lent hold
 HELD_LIMIT = 8999  # a held part lacks at least one byte of its packet
 LIST_OUTPUT = 10907  # the longest list of one frame (R25)
-LENGTH = 2  # bytes of an entry's length
 
 
 class Receiver(NamedTuple):
@@ -41,16 +44,6 @@ def missed_before(header, receiver):
     return (header.txfn - receiver.expected) % 65536
 
 
-def buffer_refusals(receiver, hold, output):
-    """Those of 2 and 3 that apply to the state and the lent buffers, for every type of frame (R2)."""
-    refusals = []
-    if len(hold) != HOLD or len(output) < LIST_OUTPUT:
-        refusals.append(2)
-    if len(hold) == HOLD and not 0 <= receiver.held <= HELD_LIMIT:
-        refusals.append(3)
-    return refusals
-
-
 def passes_limit(record, held):
     """R23: the record continues a held part, and the sum is more than a packet or a part may have."""
     first, last, data = record
@@ -58,16 +51,28 @@ def passes_limit(record, held):
     return not first and held > 0 and held + len(data) > limit
 
 
-def area_refusals(header, area, receiver):
-    """14 or 15 where one applies; only DATA areas are looked into."""
+def area_refusal(header, area, receiver):
+    """14 or 15 where one applies, otherwise 0; only DATA areas are looked into."""
     if header.type != frames.DATA:
-        return []
+        return 0
     records = packing.records_of(area)
     if records is None:
-        return [14]
+        return 14
     if missed_before(header, receiver) == 0 and passes_limit(records[0], receiver.held):
-        return [15]
-    return []
+        return 15
+    return 0
+
+
+def apply_refusal(header, area, receiver, hold, output):
+    """02, M-106: the first number that applies in the order 2, 3, 11, 14, 15; otherwise 0. All but the last two are
+    judged for every type of frame (R2)."""
+    if len(area) != codes.AREA or len(hold) != HOLD or len(output) < LIST_OUTPUT:
+        return 2
+    if not 0 <= receiver.held <= HELD_LIMIT:
+        return 3
+    if not frames.may_be_sent(header):  # what coding refuses with 6, no opening gives
+        return 11
+    return area_refusal(header, area, receiver)
 
 
 def take(records, held, hold):
@@ -100,65 +105,21 @@ def accept(header, area, receiver, hold, output):
     return answer, after, hold, listed + bytes(output[len(listed):])
 
 
-def concluded(refusals, header, area, receiver, hold, output):
-    """The lowest of the refusals, or what the area does: the number, the answer, and state, hold and output after the call."""
-    # What buffers and states hold is only asked where they are sound; 14 and 15 are above the others in any case.
-    if not refusals:
-        refusals = area_refusals(header, area, receiver)
-    if refusals:
-        return min(refusals), None, receiver, bytes(hold), bytes(output)
+def apply(header, area, receiver, hold, output):
+    """An opened frame taken: the number, the answer, and state, hold and output after the call."""
+    number = apply_refusal(header, area, receiver, hold, output)
+    if number != 0:
+        return number, None, receiver, bytes(hold), bytes(output)
     return (0,) + accept(header, area, receiver, hold, output)
 
 
-def apply(header, area, receiver, hold, output):
-    """An opened frame taken."""
-    refusals = buffer_refusals(receiver, hold, output)
-    if len(area) != codes.AREA:
-        refusals.append(2)
-    return concluded(refusals, header, area, receiver, hold, output)
-
-
-def receive(taps, frame, receiver, hold, output):
-    """A frame from the wire taken; the lowest number counts over all arguments (R1)."""
-    refusals = buffer_refusals(receiver, hold, output)
-    opened, header, area = frames.open_frame(taps, frame, codes.AREA)
-    if opened != 0:
-        refusals.append(opened)
-    return concluded(refusals, header, area, receiver, hold, output)
-
-
-# Reading the list (01, "Reading the list"; R26)
-
-
-def entry(listed, position):
-    """The entry at a position: number, start and length of the packet, and the position behind it."""
-    end = (0, None, None, None)
-    refused = (16, None, None, None)
-    if position == len(listed):
-        return end
-    start = position + LENGTH
-    if position < 0 or start > len(listed):
-        return refused
-    length = int.from_bytes(listed[position:start], "big")
-    if not 1 <= length <= packing.PACKET or start + length > len(listed):
-        return refused
-    return 0, start, length, start + length
-
-
-def packet(listed, position):
-    """The bytes of the packet at a position; none at the end or a refusal."""
-    _, start, length, _ = entry(listed, position)
-    return b"" if start is None else bytes(listed[start:start + length])
-
-
-def packets_of(listed):
-    """All packets from position 0 on, up to the end or a refusal."""
-    packets = []
-    position = 0
-    while entry(listed, position)[3] is not None:
-        packets.append(packet(listed, position))
-        position = entry(listed, position)[3]
-    return packets
+def open_and_apply(taps, frame, receiver, hold, output):
+    """The two calls as one (02, M-106): what was opened is applied, once and as opened. The first refusal stands, and
+    nothing is applied after one."""
+    number, header, area = frames.open_frame(taps, frame, codes.AREA)
+    if number != 0:
+        return number, None, receiver, bytes(hold), bytes(output)
+    return apply(header, area, receiver, hold, output)
 
 
 # Trials
@@ -229,53 +190,98 @@ def limit_cases():
         ("9,000 without last, none expected", taken(Receiver(None, 7094), full), 15),
         ("9,000 without last, a gap", taken(Receiver(6, 7094), full)[0], 1),
         ("the longest list", longest[1][2:], (2, LIST_OUTPUT)),
-        ("held 9,000", taken(Receiver(7, 9000), one), 3),
-        ("zeros", taken(Receiver(7, 0)), 14),
-        ("hold too short", apply(HEADER, bytes(1908), Receiver(7, 9000), HOLD_BYTES[1:], OUTPUT)[0], 2),
-        ("output too short", apply(HEADER, bytes(1908), FRESH, HOLD_BYTES, OUTPUT[:LIST_OUTPUT - 1])[0], 2),
-        ("area too short", apply(HEADER._replace(type=0), bytes(1907), FRESH, HOLD_BYTES, OUTPUT)[0], 2),
     ]
 
 
-def wire_cases():
-    """Whole frames: the missed count of 01, and the order of the refusals."""
-    taps = 0b1001
+# What apply refuses, in the order of its numbers (02, M-106): each beside a frame that is right in all else.
+RIGHT = {"header": HEADER, "area": area_of((True, True, b"x")), "receiver": Receiver(7, 8999)}
+LENT = {"hold": HOLD_BYTES, "output": OUTPUT}
+WRONG = [
+    (2, {"area": bytes(1907)}), (2, {"area": bytes(1909)}), (2, {"hold": HOLD_BYTES[1:]}),
+    (2, {"output": OUTPUT[:LIST_OUTPUT - 1]}), (3, {"receiver": Receiver(7, 9000)}),
+    (11, {"header": HEADER._replace(rxfn=1)}),
+    (14, {"area": bytes(1908)}), (14, {"area": area_of((False, True, b"xx"), (False, True, b"x"))}),
+    (15, {"area": area_of((False, True, b"xx"))}),
+]
+
+
+def order_cases():
+    """Every choice of what is wrong, of every type: the first number of the order stands, and nothing changes."""
+    cases = []
+    for choice in (choice for count in range(1, len(WRONG) + 1) for choice in combinations(WRONG, count)):
+        given = RIGHT | LENT
+        for _, change in reversed(choice):
+            given |= change
+        refused = None, given["receiver"], given["hold"], given["output"]
+        numbers = [number for number, _ in choice]
+        for frame_type in range(4):
+            found = apply(**given | {"header": given["header"]._replace(type=frame_type)})
+            if numbers[0] < 14 or frame_type == frames.DATA:
+                cases.append((f"{numbers} of type {frame_type}", found, (numbers[0], *refused)))
+            else:
+                cases.append((f"{numbers} of type {frame_type}: not looked into", found[0], 0))
+    return cases
+
+
+def misfit_cases():
+    """11 for every type, and for headers that coding refuses with 6, each in another way: a field too large or against its rule."""
+    changes = [{"txfn": 65536}, {"rxfn": 1}, {"ack": 2}, {"stamp": 2 ** 40}, {"seconds": 64}, {"applies": 8}]
+    for kind, parts in [(1, (2 ** 14, 0)), (1, (0, 2)), (3, (0, 3)), (5, (0, 32, 0)), (frames.RESERVED, (6,)),
+                        (frames.RESERVED, (15,)), (9, ())]:
+        changes.append({"message": frames.Message(kind, parts)})
+    cases = []
+    for change in [{"type": 4}] + [change | {"type": frame_type} for change in changes for frame_type in range(4)]:
+        header = HEADER._replace(**change)
+        found = frames.code_header(header, bytes(16))[0], apply(header, RIGHT["area"], FRESH, **LENT)[0]
+        cases.append((f"a header with {change}", found, (6, 11)))
+    return cases
+
+
+def opened_cases(taps):
+    """Never 11 of a header that was opened: every opcode with some payloads, of every type, with RXFN and without."""
+    plain, payload = frames.values_of(HEADER), codes.code_payload(codes.payload_data_of(RIGHT["area"]))
+    seen = set()
+    for opcode, bits, (valid, rxfn) in product(range(16), [0, 2, 0xFFFF], [(0, 0), (0, 1), (1, 1)]):
+        changes = {"FCCH_OPCODE": opcode, "FCCH_PL": bits, "ACK-valid": valid, "RXFN": rxfn, "FRAME_TYPE": opcode % 4}
+        coded = frames.coded_header(frames.with_check(frames.bytes_by_table(plain | changes)))
+        opened, header, area = frames.open_frame(taps, frames.frame_of(taps, coded, payload), codes.AREA)
+        seen.add((opened, apply(header, area, FRESH, **LENT)[0] if opened == 0 else None))
+    return [("opened and applied, or refused when opened", seen, {(0, 0), (11, None)})]
+
+
+def wire_cases(taps):
+    """Whole frames: the missed count of 01; and opening's refusals before all of applying's (02, M-106)."""
     frame = frames.build(taps, HEADER._replace(txfn=65535), area_of((True, True, b"\xAA")))
-    zeros = frames.build(taps, HEADER, bytes(codes.AREA))
-    number, answer, after, hold, output = receive(taps, frame, Receiver(0, 5), HOLD_BYTES, OUTPUT)
-    return [
+    number, answer, after, hold, output = open_and_apply(taps, frame, Receiver(0, 5), HOLD_BYTES, OUTPUT)
+    cases = [
         ("expected 0, arrived 65,535", (number, answer[1:]), (0, (65535, 1, 3))),
         ("expected 0, arrived 65,535: after", (after, hold), (Receiver(0, 0), HOLD_BYTES)),
         ("expected 0, arrived 65,535: list", output, b"\0\1\xAA" + OUTPUT[3:]),
-        ("refused 1", receive(8, frame[1:], Receiver(0, 9000), b"", b"")[0], 1),
-        ("refused 2", receive(taps, frame[1:], Receiver(0, 9000), HOLD_BYTES, OUTPUT)[0], 2),
-        ("refused 3", receive(taps, bytes(2081), Receiver(0, 9000), HOLD_BYTES, OUTPUT)[0], 3),
-        ("refused 7", receive(taps, bytes(2081), Receiver(0, 8999), HOLD_BYTES, OUTPUT)[0], 7),
-        ("refused 14", receive(taps, zeros, FRESH, HOLD_BYTES, OUTPUT), (14, None, FRESH, HOLD_BYTES, OUTPUT)),
     ]
-
-
-def list_cases():
-    """The list read from every kind of position (R26)."""
-    listed = b"\0\1\xAA\0\2\xBB\xCC"
-    end = (0, None, None, None)
-    refused = (16, None, None, None)
-    return [
-        ("entries", [entry(listed, 0), entry(listed, 3)], [(0, 2, 1, 3), (0, 5, 2, 7)]),
-        ("the end", (entry(listed, 7), packet(listed, 7), entry(b"", 0)), (end, b"", end)),
-        ("past the end", (entry(listed, 8), packet(listed, 8)), (refused, b"")),
-        ("one byte left", entry(listed, 6), refused),
-        ("length 0", entry(b"\0\0", 0), refused),
-        ("9,001", entry((9001).to_bytes(2, "big") + bytes(9001), 0), refused),
-        ("9,000", entry((9000).to_bytes(2, "big") + bytes(9000), 0), (0, 2, 9000, 9002)),
-        ("cut short", entry(listed[:6], 3), refused),
-        ("packets", packets_of(listed), [b"\xAA", b"\xBB\xCC"]),
-    ]
+    sixteen, zeros = frames.header_bytes(HEADER), codes.payload_data_of(bytes(1908))
+    arrived = {
+        7: bytes(2081),
+        8: frames.damaged(frame, 40),
+        9: frames.recoded(taps, sixteen[:15] + b"x", zeros),
+        11: frames.recoded(taps, frames.with_check(sixteen[:2] + b"x" + sixteen[3:14]), zeros),
+        12: frames.damaged(frame, 2080),
+        13: frames.recoded(taps, sixteen, zeros[:-1] + b"x"),
+    }
+    undamaged = frames.recoded(taps, sixteen, zeros)
+    calls = [(1, 8, frame[1:]), (2, taps, frame[1:]), *((number, taps, one) for number, one in arrived.items())]
+    for hold, output, held in product([HOLD_BYTES, b""], [OUTPUT, b""], [8999, 9000]):
+        lent = Receiver(7, held), hold, output
+        behind = 2 if not hold or not output else 3 if held == 9000 else 14
+        for number, given, one in [*calls, (behind, taps, undamaged)]:
+            cases.append((f"{number} before {behind}", open_and_apply(given, one, *lent), (number, None, *lent)))
+    return cases
 
 
 def own_trial():
-    """Tries every number of 01 that concerns the receiver; gives how many."""
-    return codes.all_same(joining_cases() + limit_cases() + wire_cases() + list_cases())
+    """Tries every number of 01 that concerns the receiver, and each refusal before the others; gives how many."""
+    taps = 0b1001
+    refusals = order_cases() + misfit_cases() + opened_cases(taps) + wire_cases(taps)
+    return entries.own_trial() + codes.all_same(joining_cases() + limit_cases() + refusals)
 
 
 if __name__ == "__main__":

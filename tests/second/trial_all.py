@@ -1,7 +1,8 @@
 """Runs the trial of every module, then random sessions with losses and damage from a sender to a receiver.
 
-Demand 3 in our words: each frame that arrives as sent is accepted; a packet comes out exactly if every frame from the
-one with its first byte to the one with its last was accepted; packets come out in order, once, unaltered.
+Demand 3 in our words, opening and applying taken as one (request M-106): each frame that arrives as sent is accepted; a
+packet comes out exactly if every frame from the one with its first byte to the one with its last was accepted; packets
+come out in order, once, unaltered.
 """
 
 import random
@@ -114,7 +115,7 @@ class ReceivingEnd:
 
     def take(self, place, frame):
         """A frame as it was sent: it must be accepted, and the frames since the last accepted one are missed."""
-        number, answer, self.state, self.hold, self.output = receiver.receive(
+        number, answer, self.state, self.hold, self.output = receiver.open_and_apply(
             self.taps, frame, self.state, self.hold, self.output)
         codes.all_same([("a frame that arrives as sent", number, 0)])
         missed = place - self.accepted[-1] - 1 if self.accepted else 0
@@ -126,7 +127,7 @@ class ReceivingEnd:
     def refuse(self, spoiled):
         """A damaged frame: it must be refused, and nothing may change."""
         before = (None, self.state, self.hold, self.output)
-        number, *after = receiver.receive(self.taps, spoiled, self.state, self.hold, self.output)
+        number, *after = receiver.open_and_apply(self.taps, spoiled, self.state, self.hold, self.output)
         codes.all_same([("a damaged frame is refused", number != 0, True), ("unchanged", tuple(after), before)])
 
 

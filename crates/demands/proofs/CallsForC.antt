@@ -17,10 +17,12 @@ use Rattle.sender.specs.declared.WaitingAnswer.the-variants as counting
 use Rattle.sending.specs.Next.{nextNumber}
 use Rattle.sending.specs.declared.NextAnswer.{NextAnswer}
 use Rattle.sending.specs.declared.NextAnswer.the-variants as sending
-use Rattle.receiver.specs.Applying.{freshReceiver}
-use Rattle.receiving.specs.Receiving.{receiveNumber}
-use Rattle.receiving.specs.declared.ReceiveAnswer.{ReceiveAnswer}
-use Rattle.receiving.specs.declared.ReceiveAnswer.the-variants as receiving
+use Rattle.opening.specs.Opening.{openNumber}
+use Rattle.opening.specs.declared.OpenAnswer.{OpenAnswer}
+use Rattle.opening.specs.declared.OpenAnswer.the-variants as opening
+use Rattle.receiver.specs.Applying.{freshReceiver, applyNumber}
+use Rattle.receiver.specs.declared.ApplyAnswer.{ApplyAnswer}
+use Rattle.receiver.specs.declared.ApplyAnswer.the-variants as applying
 use Rattle.list.specs.Entries.{entryNumber, entryAnswer}
 use Rattle.list.specs.declared.EntryAnswer.{EntryAnswer}
 use Rattle.list.specs.declared.EntryAnswer.the-variants as listing
@@ -28,8 +30,8 @@ use Rattle.flat.specs.Headers.{fieldsOf, headerOf}
 use Rattle.flat.specs.States.{senderOf, flatSender, receiverOf, flatReceiver}
 use Rattle.flat.specs.declared.states.FlatReceiver.{FlatReceiver}
 use Rattle.flat.specs.declared.states.FlatSender.{FlatSender}
-use Rattle.flat.specs.Answers.{flatPut, flatWaiting, flatNext, flatReceive, flatCode, flatRead, flatEntry, flatPacket}
-use Rattle.taqwelim.specs.Calls.{FreshSenderCall, PutCall, WaitingCall, NextCall, FreshReceiverCall, ReceiveCall, EntryCall, PacketCall}
+use Rattle.flat.specs.Answers.{flatPut, flatWaiting, flatNext, flatOpen, flatApply, flatCode, flatRead, flatEntry, flatPacket}
+use Rattle.taqwelim.specs.Calls.{FreshSenderCall, PutCall, WaitingCall, NextCall, FreshReceiverCall, OpenCall, ApplyCall, EntryCall, PacketCall}
 use Rattle.taqwelim.specs.Calls.{CodeCall, ReadCall, LevelCall}
 use Rattle.demands.specs.Demand1.{Demand1}
 use Rattle.demands.specs.CallsForC.{RefusesAs, EveryCallForC}
@@ -80,9 +82,13 @@ next-number : (given : FlatSender) (answer : NextAnswer) → flatNext given answ
 next-number given (sending.Sent sender kind) = refl
 next-number given (sending.Refused number) = refl
 
-receive-number : (given : FlatReceiver) (answer : ReceiveAnswer) → flatReceive given answer .refusal ≡ receiveNumber answer
-receive-number given (receiving.Received header missed packets listed receiver) = refl
-receive-number given (receiving.Refused number) = refl
+open-number : (answer : OpenAnswer) → flatOpen answer .refusal ≡ openNumber answer
+open-number (opening.Opened header) = refl
+open-number (opening.Refused number) = refl
+
+apply-number : (given : FlatReceiver) (answer : ApplyAnswer) → flatApply given answer .refusal ≡ applyNumber answer
+apply-number given (applying.Applied missed packets listed receiver) = refl
+apply-number given (applying.Refused number) = refl
 
 read-number : (answer : ReadAnswer) → flatRead answer .refusal ≡ readNumber answer
 read-number (reading.Read header) = refl
@@ -108,9 +114,12 @@ every-call-for-c-holds = record {
       (λ r. r .refusal) (next-number sender) (λ answer after. NextCall taps fields sender queue out answer (after .0) (after .1))
       (λ answer after o. record { answer = answer; outcome = o; flat = refl }) (λ r after o. (o .answer, (o .outcome, o .flat)));
   fresh-receiver = never-refuses (λ answer after. FreshReceiverCall answer) (flatReceiver freshReceiver) tt refl (λ r after o. (o, refl));
-  receive = λ taps frame receiver hold list.
-      flat-holds (λ n. receiving.Refused n) (every-call-holds .receive taps frame (receiverOf receiver) hold list) (λ n. refl) (flatReceive receiver)
-      (λ r. r .refusal) (receive-number receiver) (λ answer after. ReceiveCall taps frame receiver hold list answer (after .0) (after .1))
+  open-frame = λ taps frame area.
+      flat-holds (λ n. opening.Refused n) (every-call-holds .open-frame taps frame area) (λ n. refl) flatOpen (λ r. r .refusal) open-number
+      (OpenCall taps frame area) (λ answer after o. record { answer = answer; outcome = o; flat = refl }) (λ r after o. (o .answer, (o .outcome, o .flat)));
+  apply = λ header area receiver hold list.
+      flat-holds (λ n. applying.Refused n) (every-call-holds .apply (headerOf header) area (receiverOf receiver) hold list) (λ n. refl) (flatApply receiver)
+      (λ r. r .refusal) (apply-number receiver) (λ answer after. ApplyCall header area receiver hold list answer (after .0) (after .1))
       (λ answer after o. record { answer = answer; outcome = o; flat = refl }) (λ r after o. (o .answer, (o .outcome, o .flat)));
   entry = λ list position.
       flat-holds (λ n. listing.Refused n) (every-call-holds .entry list position) (λ n. refl) flatEntry (λ r. r .refusal) entry-number

@@ -40,9 +40,6 @@ use Rattle.receiver.specs.Applying.{applyTable, ApplyOutcome}
 use Rattle.receiver.specs.declared.Receiver.{Receiver}
 use Rattle.receiver.specs.declared.ApplyAnswer.{ApplyAnswer}
 use Rattle.receiver.specs.declared.ApplyAnswer.the-variants as applying
-use Rattle.receiving.specs.Receiving.{receiveTable, ReceiveOutcome}
-use Rattle.receiving.specs.declared.ReceiveAnswer.{ReceiveAnswer}
-use Rattle.receiving.specs.declared.ReceiveAnswer.the-variants as receiving
 use Rattle.list.specs.Entries.{entryTable, lengthAt, packetAt, placeAt, EntryOutcome, PacketOutcome}
 use Rattle.list.specs.declared.EntryAnswer.{EntryAnswer}
 use Rattle.list.specs.declared.EntryAnswer.the-variants as listing
@@ -54,12 +51,13 @@ use Rattle.flat.specs.declared.states.FlatSender.{FlatSender}
 use Rattle.flat.specs.declared.FlatPut.{FlatPut}
 use Rattle.flat.specs.declared.FlatWaiting.{FlatWaiting}
 use Rattle.flat.specs.declared.FlatNext.{FlatNext}
-use Rattle.flat.specs.declared.FlatReceive.{FlatReceive}
+use Rattle.flat.specs.declared.FlatOpen.{FlatOpen}
+use Rattle.flat.specs.declared.FlatApply.{FlatApply}
 use Rattle.flat.specs.declared.FlatCode.{FlatCode}
 use Rattle.flat.specs.declared.FlatRead.{FlatRead}
 use Rattle.flat.specs.declared.FlatEntry.{FlatEntry}
 use Rattle.flat.specs.declared.FlatPacket.{FlatPacket}
-use Rattle.taqwelim.specs.Calls.{FreshSenderCall, PutCall, WaitingCall, NextCall, FreshReceiverCall, ReceiveCall, EntryCall, PacketCall}
+use Rattle.taqwelim.specs.Calls.{FreshSenderCall, PutCall, WaitingCall, NextCall, FreshReceiverCall, OpenCall, ApplyCall, EntryCall, PacketCall}
 use Rattle.taqwelim.specs.Calls.{CodeCall, ReadCall, LevelCall}
 use Rattle.demands.specs.Demand1.{Demand1}
 use Rattle.demands.proofs.Outcomes.{among, first-among}
@@ -75,7 +73,7 @@ module _ {A B : Type 0} {Meets : A → B → Type 0} {before : B} {numberOf : A 
       let refuses = subst (Refuses answer) e (demand .refused answer after o (λ z. ne (sym e ∙ z))) in
       (refuses, demand .refusal answer n after o refuses .1)
 
--- ---- the numbers of each call (01, "Refusal numbers")
+-- ---- the numbers of each call, in its order (01, "Refusal numbers"; 02, M-106)
 
 pub numbers-of-put : (queue : List ℕ) (start used : ℕ) (packet : List ℕ) → numbersOf (putTable queue start used packet) ≡ 2 ∷ 3 ∷ 4 ∷ 5 ∷ []
 numbers-of-put queue start used packet = refl
@@ -87,15 +85,11 @@ pub numbers-of-next : (taps : ℕ) (fields : Fields) (start used : ℕ) (queue o
     → numbersOf (nextTable taps fields start used queue out) ≡ 1 ∷ 2 ∷ 3 ∷ 6 ∷ []
 numbers-of-next taps fields start used queue out = refl
 
-pub numbers-of-receive : (taps : ℕ) (frame : List ℕ) (receiver : Receiver) (hold list : List ℕ)
-    → numbersOf (receiveTable taps frame receiver hold list) ≡ 1 ∷ 2 ∷ 3 ∷ 7 ∷ 8 ∷ 9 ∷ 11 ∷ 12 ∷ 13 ∷ 14 ∷ 15 ∷ []
-numbers-of-receive taps frame receiver hold list = refl
-
 pub numbers-of-open : (taps : ℕ) (frame area : List ℕ) → numbersOf (openTable taps frame area) ≡ 1 ∷ 2 ∷ 7 ∷ 8 ∷ 9 ∷ 11 ∷ 12 ∷ 13 ∷ []
 numbers-of-open taps frame area = refl
 
 pub numbers-of-apply : (header : Header) (area : List ℕ) (receiver : Receiver) (hold list : List ℕ)
-    → numbersOf (applyTable header area receiver hold list) ≡ 2 ∷ 3 ∷ 14 ∷ 15 ∷ []
+    → numbersOf (applyTable header area receiver hold list) ≡ 2 ∷ 3 ∷ 11 ∷ 14 ∷ 15 ∷ []
 numbers-of-apply header area receiver hold list = refl
 
 pub numbers-of-code : (header : Header) (out : List ℕ) → numbersOf (codeTable header out) ≡ 2 ∷ 6 ∷ []
@@ -122,11 +116,6 @@ pub next-refused : (fields : Fields) (sender : Sender) (queue out : List ℕ) (a
     → NextOutcome 0 fields sender queue out answer (after .0) (after .1) → (answer ≡ sending.Refused 1) × (after ≡ (queue, out))
 unfolding firstOf tapsAllowed
 next-refused fields sender queue out = first-given (every-call-holds .next-frame 0 fields sender queue out) 1 refl (λ z. omega arith)
-
-pub receive-refused : (frame : List ℕ) (receiver : Receiver) (hold list : List ℕ) (answer : ReceiveAnswer) (after : List ℕ × List ℕ)
-    → ReceiveOutcome 0 frame receiver hold list answer (after .0) (after .1) → (answer ≡ receiving.Refused 1) × (after ≡ (hold, list))
-unfolding firstOf tapsAllowed
-receive-refused frame receiver hold list = first-given (every-call-holds .receive 0 frame receiver hold list) 1 refl (λ z. omega arith)
 
 pub open-refused : (frame area : List ℕ) (answer : OpenAnswer) (after : List ℕ)
     → OpenOutcome 0 frame area answer after → (answer ≡ opening.Refused 1) × (after ≡ area)
@@ -180,17 +169,17 @@ module _ {A B : Type 0} {Meets : A → B → Type 0} {before : B} {numberOf : A 
       let given = first-among table (λ z. ne (e ∙ z)) in
       false≢true (sym none ∙ subst (λ (n : ℕ). among n (numbersOf table) ≡ true) (sym e) given)
 
--- .. receiving never refuses with 16, ..
-pub never-16 : (taps : ℕ) (frame : List ℕ) (receiver : Receiver) (hold list hold′ list′ : List ℕ)
-    → ReceiveOutcome taps frame receiver hold list (receiving.Refused 16) hold′ list′ → ⊥
-never-16 taps frame receiver hold list hold′ list′ =
-    never-given (every-call-holds .receive taps frame receiver hold list) (receiving.Refused 16) (hold′, list′) (λ z. omega arith) refl
+-- .. applying never refuses with 16, ..
+pub never-16 : (header : Header) (area : List ℕ) (receiver : Receiver) (hold list hold′ list′ : List ℕ)
+    → ApplyOutcome header area receiver hold list (applying.Refused 16) hold′ list′ → ⊥
+never-16 header area receiver hold list hold′ list′ =
+    never-given (every-call-holds .apply header area receiver hold list) (applying.Refused 16) (hold′, list′) (λ z. omega arith) refl
 
--- .. and 10 is never given (02, M-100): not by receiving or its first half, and not by read_header
-pub never-10 : (taps : ℕ) (frame : List ℕ) (receiver : Receiver) (hold list hold′ list′ : List ℕ)
-    → ReceiveOutcome taps frame receiver hold list (receiving.Refused 10) hold′ list′ → ⊥
-never-10 taps frame receiver hold list hold′ list′ =
-    never-given (every-call-holds .receive taps frame receiver hold list) (receiving.Refused 10) (hold′, list′) (λ z. omega arith) refl
+-- .. and 10 is never given (02, M-100): not by open or apply, and not by read_header
+pub never-10 : (header : Header) (area : List ℕ) (receiver : Receiver) (hold list hold′ list′ : List ℕ)
+    → ApplyOutcome header area receiver hold list (applying.Refused 10) hold′ list′ → ⊥
+never-10 header area receiver hold list hold′ list′ =
+    never-given (every-call-holds .apply header area receiver hold list) (applying.Refused 10) (hold′, list′) (λ z. omega arith) refl
 
 pub never-10-opened : (taps : ℕ) (frame area area′ : List ℕ) → OpenOutcome taps frame area (opening.Refused 10) area′ → ⊥
 never-10-opened taps frame area area′ = never-given (every-call-holds .open-frame taps frame area) (opening.Refused 10) area′ (λ z. omega arith) refl
@@ -203,9 +192,6 @@ pub never-0 : (queue : List ℕ) (sender : Sender) (packet after : List ℕ) →
 never-0 queue sender packet after o = every-call-holds .put queue sender packet .refusal (putting.Refused 0) 0 after o refl .0 refl
 
 -- ---- the calls for C: the state comes back as it was given, with zeros beside it
-
-abbrev pub untouched : FlatHeader → FlatReceiver → ℕ → FlatReceive
-untouched header receiver number = record { header = header; receiver = receiver; packets = 0; listed = 0; missed = 0; refusal = number }
 
 pub c-put-refused : (sender : FlatSender) (packet : List ℕ) (r : FlatPut) (after : List ℕ) → PutCall [] sender packet r after
     → r ≡ record { sender = sender; refusal = 2 }
@@ -222,11 +208,15 @@ unfolding firstOf tapsAllowed
 c-next-refused fields sender queue out r queue′ out′ o =
     first-given (every-call-for-c-holds .next-frame 0 fields sender queue out) 1 refl (λ z. omega arith) r (queue′, out′) o .0 .1
 
-pub c-receive-refused : (frame : List ℕ) (receiver : FlatReceiver) (hold list : List ℕ) (r : FlatReceive) (hold′ list′ : List ℕ)
-    → ReceiveCall 0 frame receiver hold list r hold′ list′ → r ≡ untouched noHeader receiver 1
+pub c-open-refused : (frame area : List ℕ) (r : FlatOpen) (after : List ℕ) → OpenCall 0 frame area r after → r ≡ record { header = noHeader; refusal = 1 }
 unfolding firstOf tapsAllowed
-c-receive-refused frame receiver hold list r hold′ list′ o =
-    first-given (every-call-for-c-holds .receive 0 frame receiver hold list) 1 refl (λ z. omega arith) r (hold′, list′) o .0 .1
+c-open-refused frame area r after o = first-given (every-call-for-c-holds .open-frame 0 frame area) 1 refl (λ z. omega arith) r after o .0 .1
+
+pub c-apply-refused : (header : FlatHeader) (receiver : FlatReceiver) (hold list : List ℕ) (r : FlatApply) (hold′ list′ : List ℕ)
+    → ApplyCall header [] receiver hold list r hold′ list′ → r ≡ record { receiver = receiver; packets = 0; listed = 0; missed = 0; refusal = 2 }
+unfolding firstOf
+c-apply-refused header receiver hold list r hold′ list′ o =
+    first-given (every-call-for-c-holds .apply header [] receiver hold list) 2 refl (λ z. omega arith) r (hold′, list′) o .0 .1
 
 pub c-entry-refused : (r : FlatEntry) → EntryCall [] 1 r → r ≡ record { start = 0; length = 0; next = 0; found = 0; refusal = 16 }
 unfolding firstOf lengthAt

@@ -27,7 +27,7 @@ use Rattle.header.specs.declared.Header.{Header}
 use Rattle.header_reading.specs.Reading.{headerOf, reservedIn, readRefusal, readHeader}
 use Rattle.header_reading.specs.declared.ReadAnswer.the-variants.{Read}
 use Rattle.frame.specs.Frame.{frameBytes, frameBytesWith}
-use Rattle.opening.specs.Opening.{openedReserved, OpenOutcome}
+use Rattle.opening.specs.Opening.{openRefusal, openedReserved, OpenOutcome}
 use Rattle.opening.specs.declared.OpenAnswer.{OpenAnswer}
 use Rattle.opening.specs.declared.OpenAnswer.the-variants.{Opened}
 use Rattle.link.specs.Link.{Piece, Queue, empty}
@@ -45,9 +45,10 @@ use Rattle.sender.specs.declared.WaitingAnswer.{WaitingAnswer}
 use Rattle.sender.specs.declared.WaitingAnswer.the-variants.{Waiting}
 use Rattle.sending.specs.Next.{NextOutcome}
 use Rattle.sending.specs.declared.NextAnswer.the-variants.{Sent}
-use Rattle.receiver.specs.Applying.{freshReceiver}
+use Rattle.receiver.specs.Applying.{freshReceiver, applyRefusal, ApplyOutcome}
 use Rattle.receiver.specs.declared.Receiver.{Receiver}
-use Rattle.receiving.specs.Receiving.{receiveRefusal}
+use Rattle.receiver.specs.declared.ApplyAnswer.the-variants.{Applied}
+use Rattle.list.specs.Entries.{packetsRead}
 use Rattle.demands.specs.Cases.{idle}
 use Rattle.demands.specs.Demand2.{HoldsQueue}
 use Rattle.demands.proofs.Demand2.{demand2-holds}
@@ -175,8 +176,8 @@ pub packet-read : read packetArea ≡ some packetPieces
 packet-read = demand2-holds .area-exactly packetArea packetPieces (omega arith, (omega arith, (omega arith, zeros-bytes 1905))) .1 packet-allowed
 
 -- zeros are no DATA area
-pub zeros-unread : (pieces : List Piece) → read (zeros 1908) ≡ some pieces → ⊥
-zeros-unread pieces e = go pieces (demand2-holds .area-exactly (zeros 1908) pieces (zeros-bytes 1908) .0 e)
+no-zeros : (pieces : List Piece) → Allowed (zeros 1908) pieces → ⊥
+no-zeros = go
   where
     mark-above : (first last : Bool) (n : ℕ) → 1 ≤ n → n < 2048 → 0 ≡ (cond first 32768 0 + cond last 16384 0 + n) / 256 % 256
         → 0 ≡ (cond first 32768 0 + cond last 16384 0 + n) % 256 → ⊥
@@ -191,6 +192,9 @@ zeros-unread pieces e = go pieces (demand2-holds .area-exactly (zeros 1908) piec
         let size = a .lengths [] pieces piece refl in
         mark-above (piece .first) (piece .last) (length (piece .bytes)) (size .0) (size .1)
         (ap (λ (l : List ℕ). getD l 0 0) (a .laid)) (ap (λ (l : List ℕ). getD l 1 0) (a .laid))
+
+pub zeros-unread : (pieces : List Piece) → read (zeros 1908) ≡ some pieces → ⊥
+zeros-unread pieces e = no-zeros pieces (demand2-holds .area-exactly (zeros 1908) pieces (zeros-bytes 1908) .0 e)
 
 -- ---- the frame
 
@@ -238,33 +242,62 @@ module _ (taps : ℕ) (fields : Fields) (sender : Sender) (queue out : List ℕ)
       let d = s .data-frame refl in
       (d .0, s .coded ∙ λ j. frameBytes taps (firstHeader (d .0 j) fields) (d .1 .laid j))
 
--- ---- receive
+-- ---- open
 
 -- zeros are no frame, ..
-pub zeros-refused : (taps : ℕ) (receiver : Receiver) (hold list : List ℕ) → receiveRefusal taps (zeros 2081) receiver hold list ≡ 0 → ⊥
+pub zeros-refused : (taps : ℕ) (buffer : List ℕ) → openRefusal taps (zeros 2081) buffer ≡ 0 → ⊥
 unfolding frameBytesWith
-zeros-refused taps receiver hold list z =
-    let f = demand2-holds .accepts-exactly taps (zeros 2081) receiver hold list (zeros-bytes 2081) .0 z .1 in
+zeros-refused taps buffer z =
+    let f = demand2-holds .opens-exactly taps (zeros 2081) buffer (zeros-bytes 2081) .0 z .2 in
     let begins = ap (λ (l : List ℕ). getD l 0 0) (f .coded) in
     omega arith
 
--- .. and what a fresh sender sends is accepted by a fresh receiver, and so is the same frame with any reserved bits
-pub idle-accepted : (taps : ℕ) (reserved : ReservedBits) (fields : Fields) (hold list : List ℕ) → tapsAllowed taps ≡ true → fieldsFit fields ≡ true
-    → length hold ≡ 9000 → 10907 ≤ length list → Bytes (frameBytesWith taps reserved (firstHeader Idle fields) (zeros 1908))
-    → receiveRefusal taps (frameBytesWith taps reserved (firstHeader Idle fields) (zeros 1908)) freshReceiver hold list ≡ 0
-idle-accepted taps reserved fields hold list allowed fit hold-size list-size bytes =
-    demand2-holds .accepts-exactly taps (frameBytesWith taps reserved (firstHeader Idle fields) (zeros 1908)) freshReceiver hold list bytes .1 (
-      record { allowed = allowed; hold-size = hold-size; list-size = list-size; held = omega arith },
+-- .. and what a fresh sender sends is opened, and so is the same frame with any reserved bits
+pub idle-accepted : (taps : ℕ) (reserved : ReservedBits) (fields : Fields) (buffer : List ℕ) → tapsAllowed taps ≡ true → fieldsFit fields ≡ true
+    → 1908 ≤ length buffer → Bytes (frameBytesWith taps reserved (firstHeader Idle fields) (zeros 1908))
+    → openRefusal taps (frameBytesWith taps reserved (firstHeader Idle fields) (zeros 1908)) buffer ≡ 0
+idle-accepted taps reserved fields buffer allowed fit room bytes =
+    demand2-holds .opens-exactly taps (frameBytesWith taps reserved (firstHeader Idle fields) (zeros 1908)) buffer bytes .1 (
+      allowed,
+      room,
       record {
         reserved = reserved;
         header = firstHeader Idle fields;
         area = zeros 1908;
-        pieces = [];
         coded = refl;
         may-be-sent = fit;
         area-size = zeros-length 1908;
-        data-frame = λ e. absurd (false≢true e);
-        other-frame = λ e. refl;
-        joined = refl;
       },
     )
+
+-- ---- apply
+
+module _ (fields : Fields) (hold list : List ℕ) where
+  -- an IDLE frame is applied whatever its area, ..
+  pub idle-applied : (area : List ℕ) → Bytes area → length area ≡ 1908 → length hold ≡ 9000 → 10907 ≤ length list → fieldsFit fields ≡ true
+      → applyRefusal (firstHeader Idle fields) area freshReceiver hold list ≡ 0
+  idle-applied area bytes long hold-size list-size fit =
+      demand2-holds .applies-exactly (firstHeader Idle fields) area freshReceiver hold list bytes .1 (record {
+        area-size = long;
+        hold-size = hold-size;
+        list-size = list-size;
+        held = omega arith;
+        may-be-sent = fit;
+        pieces = [];
+        has = record { data-frame = λ e. absurd (false≢true e); other-frame = λ e. refl };
+        joined = refl;
+      })
+
+  -- .. a DATA frame with zeros is not, ..
+  pub zeros-unapplied : (receiver : Receiver) → applyRefusal (firstHeader Data fields) (zeros 1908) receiver hold list ≡ 0 → ⊥
+  zeros-unapplied receiver z =
+      let f = demand2-holds .applies-exactly (firstHeader Data fields) (zeros 1908) receiver hold list (zeros-bytes 1908) .0 z in
+      no-zeros (f .pieces) (f .has .data-frame refl)
+
+  -- .. and packet AA in the area comes out as packet AA
+  pub packet-listed : (missed packets listed : ℕ) (after : Receiver) (hold′ list′ : List ℕ)
+      → ApplyOutcome (firstHeader Data fields) packetArea freshReceiver hold list (Applied missed packets listed after) hold′ list′
+      → (packetsRead (take listed list′) ≡ some ((0xAA ∷ []) ∷ [])) × (packets ≡ 1)
+  packet-listed =
+      demand2-holds .list-back (firstHeader Data fields) packetArea freshReceiver hold list packetPieces
+      (record { data-frame = λ e. packet-allowed; other-frame = λ e. absurd (false≢true (sym e)) })

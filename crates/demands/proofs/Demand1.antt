@@ -21,9 +21,7 @@ use Rattle.sender.specs.declared.PutAnswer.the-variants as putting
 use Rattle.sender.specs.declared.WaitingAnswer.the-variants as counting
 use Rattle.sending.specs.declared.NextAnswer.the-variants as sending
 use Rattle.receiver.specs.Applying.{applyTable, applyNumber, applyRefusal, ApplyOutcome}
-use Rattle.receiving.specs.Receiving.{receiveTable, receiveNumber, receiveRefusal, ReceiveOutcome}
 use Rattle.receiver.specs.declared.ApplyAnswer.the-variants as applying
-use Rattle.receiving.specs.declared.ReceiveAnswer.the-variants as receiving
 use Rattle.list.specs.Entries.{lengthAt, entryTable, foundAt, entryNumber, entryRefusal, entryAnswer, EntryOutcome, packetAt, placeAt, PacketOutcome}
 use Rattle.list.specs.declared.EntryAnswer.{EntryAnswer}
 use Rattle.list.specs.declared.EntryAnswer.the-variants as listing
@@ -58,7 +56,7 @@ module _ (list : List ℕ) (position : ℕ) where
       go false = refl
 
 pub every-call-holds : EveryCall
-unfolding putRefusal waitingRefusal waitingAnswer nextRefusal receiveRefusal openRefusal applyRefusal entryRefusal entryAnswer codeRefusal readRefusal
+unfolding putRefusal waitingRefusal waitingAnswer nextRefusal openRefusal applyRefusal entryRefusal entryAnswer codeRefusal readRefusal
 every-call-holds = record {
   put = λ queue sender packet.
       let table = putTable queue (sender .start) (sender .used) packet in
@@ -70,12 +68,6 @@ every-call-holds = record {
       (λ n e. let z : Never = cc in omega arith) table refl (queue, out) (_, _)
       (λ ne. pair-path (unwritten (firstOf table) _ queue ne) (unwritten (firstOf table) _ out ne))
       (record { answer = refl; bytes = refl; frame = refl }) (λ r after o. (o .answer, pair-path (o .bytes) (o .frame)));
-  receive = λ taps frame receiver hold list.
-      let table = receiveTable taps frame receiver hold list in
-      call-holds (λ answer after. ReceiveOutcome taps frame receiver hold list answer (after .0) (after .1))
-      receiveNumber (λ n. receiving.Refused n) (λ n. refl) _ refl (λ n e. let z : Never = cc in omega arith) table refl (hold, list) (_, _)
-      (λ ne. pair-path (unwritten (firstOf table) _ hold ne) (unwritten (firstOf table) _ list ne))
-      (record { answer = refl; held = refl; listed = refl }) (λ r after o. (o .answer, pair-path (o .held) (o .listed)));
   open-frame = λ taps frame area.
       let table = openTable taps frame area in
       call-holds (OpenOutcome taps frame area) openNumber (λ n. opening.Refused n) (λ n. refl) _ refl (λ n e. let z : Never = cc in omega arith) table refl

@@ -1,20 +1,20 @@
--- DEMAND 2 holds: the theorems of header, scrambler, queue, area and frame, what next_frame sends and what receive accepts.
+-- DEMAND 2 holds: the theorems of header, scrambler, queue, area and frame, what next_frame sends, and what open and apply accept.
 use mathlib.Core.Path.{_≡_, refl, sym, ap, _∙_}
 use mathlib.Core.Bool.{Bool, true, false}
 use mathlib.Core.Option.{some}
 use mathlib.Core.List.{List, []}
-use Prim.Native.Nat.{ℕ, _<_}
-use lib.ListN.{length, take, drop}
+use Prim.Native.Nat.{ℕ, _≤_, _<_}
+use lib.ListN.{length, take}
 use borrow.Author.Tests.{lt-ltb}
 use Rattle.basics.specs.Lists.{Bytes}
-use Rattle.basics.proofs.Lists.{bytes-take, bytes-drop}
+use Rattle.basics.specs.Sizes.{areaSize}
 use Rattle.basics.proofs.Tests.{both-true}
 use Rattle.lent.specs.Refusals.{firstOf}
 use Rattle.lent.specs.Written.{written}
 use Rattle.lent.proofs.Refusals.{accepted}
 use Rattle.lent.proofs.Written.{written-front}
-use Rattle.scrambler.specs.Scrambler.{scrambled}
-use Rattle.scrambler.proofs.Laws.{scrambled-bytes, scrambled-length}
+use Rattle.scrambler.specs.Scrambler.{tapsAllowed}
+use Rattle.scrambler.proofs.Laws.{scrambled-length}
 use Rattle.scrambler.proofs.Recurrence.{first-bits, recurrence, scrambled-byte}
 use Rattle.header.specs.Header.{allOnes, headerFits, fieldsFit}
 use Rattle.header.specs.declared.Fields.{Fields}
@@ -23,12 +23,13 @@ use Rattle.header.specs.declared.Header.{Header}
 use Rattle.header_reading.proofs.Theorems.{read-of-coded, coded-of-read, sent-of-read}
 use Rattle.frame.specs.Frame.{frameBytes, frameBytesWith}
 use Rattle.frame.proofs.Laws.{frame-length}
-use Rattle.opening.specs.Opening.{frameTable, unscrambled, openedHeader, openedReserved, openedArea, OpenOutcome}
+use Rattle.opening.specs.Opening.{openRefusal, openedHeader, openedReserved, openedArea, OpenOutcome}
 use Rattle.opening.specs.declared.OpenAnswer.the-variants.{Opened}
-use Rattle.opening.proofs.Built.{built-passes, built-header, built-area}
+use Rattle.opening.proofs.Laws.{open-passed}
+use Rattle.opening.proofs.Built.{built-accepted}
 use Rattle.opening.proofs.Accepted.{accepted-frame, accepted-fits, accepted-area}
 use Rattle.opening.proofs.Theorems.{open-of-built, built-of-open}
-use Rattle.link.specs.Link.{Piece, Queue}
+use Rattle.link.specs.Link.{Piece, Queue, onPieces}
 use Rattle.link.proofs.RoundTrip.{parse-queue}
 use Rattle.marks.specs.Queue.{usedIn, isRingWhole, waitingIn}
 use Rattle.marks.proofs.Parsed.{whole-parsed}
@@ -39,12 +40,15 @@ use Rattle.sending.specs.Next.{kindFor, areaFor, headerFor, senderAfter, nextRe
 use Rattle.sender.specs.declared.Sender.{Sender}
 use Rattle.sending.specs.declared.NextAnswer.the-variants.{Sent}
 use Rattle.sending.proofs.Sending.{next-passed, sent-so}
-use Rattle.receiver.specs.Applying.{isData, piecesOf, heldPart, areaTable}
-use Rattle.receiving.specs.Receiving.{receiveRefusal}
+use Rattle.receiver.specs.Applying.{isData, piecesOf, heldPart, areaTable, applyRefusal, ApplyOutcome}
 use Rattle.receiver.specs.declared.Receiver.{Receiver}
+use Rattle.receiver.specs.declared.ApplyAnswer.the-variants.{Applied}
 use Rattle.receiver.proofs.Tables.{read-as, area-passed, data-records, other-records}
-use Rattle.receiving.proofs.Receiving.{receive-passed, receive-pass}
-use Rattle.demands.specs.Demand2.{Scrambles, HoldsQueue, SentFrame, Arguments, Acceptable, Demand2}
+use Rattle.receiver.proofs.Machine.{joined-pieces}
+use Rattle.receiver.proofs.Laws.{apply-passed, apply-pass}
+use Rattle.list.specs.Entries.{packetsRead}
+use Rattle.demands.specs.Demand2.{Scrambles, HoldsQueue, SentFrame, Openable, HasPieces, Applicable, Demand2}
+use Rattle.demands.proofs.ReadBack.{apply-read}
 
 -- ---- the queue
 
@@ -82,75 +86,81 @@ sends-so taps fields sender sender′ queue out kind queue′ out′ small o =
       idle-frame = λ t. (rw t refl, area-idle waiting t);
     })
 
--- ---- receive
+-- ---- open
 
-opened-bytes : (taps : ℕ) (frame : List ℕ) → Bytes frame → Bytes (openedArea taps frame)
-unfolding openedArea unscrambled
-opened-bytes taps frame b =
-    let body = scrambled taps (drop 9 frame) in
-    bytes-take 1908 (drop 32 body) (bytes-drop 32 body (scrambled-bytes taps (drop 9 frame) (bytes-drop 9 frame b)))
+module _ (taps : ℕ) (frame buffer : List ℕ) where
+  openable : Bytes frame → openRefusal taps frame buffer ≡ 0 → (tapsAllowed taps ≡ true) × (areaSize ≤ length buffer) × Openable taps frame
+  openable bytes e =
+      let passed = open-passed taps frame buffer e in
+      let whole = passed .0 .long in (
+        passed .0 .allowed,
+        passed .0 .room,
+        record {
+          reserved = openedReserved taps frame;
+          header = openedHeader taps frame;
+          area = openedArea taps frame;
+          coded = accepted-frame taps frame bytes whole (passed .1);
+          may-be-sent = accepted-fits taps frame bytes whole (passed .1);
+          area-size = accepted-area taps frame bytes whole (passed .1);
+        },
+      )
+
+  opens : (tapsAllowed taps ≡ true) × (areaSize ≤ length buffer) × Openable taps frame → openRefusal taps frame buffer ≡ 0
+  opens h =
+      let f = h .2 in
+      ap (λ (l : List ℕ). openRefusal taps l buffer) (f .coded)
+      ∙ built-accepted taps (f .reserved) (f .header) (f .area) (f .area-size) buffer (h .0) (f .may-be-sent) (h .1)
+
+-- ---- apply
 
 some-one : (a b : List Piece) → some a ≡ some b → b ≡ a
 some-one a b e = cc
 
-module _ (taps : ℕ) (frame : List ℕ) (receiver : Receiver) (hold list : List ℕ) (bytes : Bytes frame) where
-  forward : receiveRefusal taps frame receiver hold list ≡ 0 → Arguments taps receiver hold list × Acceptable taps frame receiver hold
-  forward e =
-      let header = openedHeader taps frame in
-      let area = openedArea taps frame in
-      let passed = receive-passed taps frame receiver hold list e in
-      let buffers = passed .arguments .buffers in
-      let t = area-passed (heldPart header receiver hold) (piecesOf (header .kind) area) (passed .read) in (
-        record { allowed = passed .arguments .allowed; hold-size = buffers .long; list-size = buffers .room; held = buffers .most },
-        record {
-          reserved = openedReserved taps frame;
-          header = header;
-          area = area;
-          pieces = t .pieces;
-          coded = accepted-frame taps frame bytes (buffers .sized) (passed .opened);
-          may-be-sent = accepted-fits taps frame bytes (buffers .sized) (passed .opened);
-          area-size = accepted-area taps frame bytes (buffers .sized) (passed .opened);
-          data-frame = λ d. read-allowed area (t .pieces) (opened-bytes taps frame bytes) (sym (data-records (header .kind) area d) ∙ t .are);
+-- the pieces of a frame are the records of its area
+records-are : (header : Header) (area : List ℕ) (pieces : List Piece) → HasPieces header area pieces → piecesOf (header .kind) area ≡ some pieces
+records-are header area pieces has = go (isData (header .kind)) refl
+  where
+    go : (test : Bool) → isData (header .kind) ≡ test → piecesOf (header .kind) area ≡ some pieces
+    go true t = data-records (header .kind) area t ∙ allowed-read area pieces (has .data-frame t)
+    go false t = other-records (header .kind) area t ∙ ap (λ (l : List Piece). some l) (sym (has .other-frame t))
+
+module _ (header : Header) (area : List ℕ) (receiver : Receiver) (hold list : List ℕ) where
+  abbrev part : List ℕ
+  part = heldPart header receiver hold
+
+  applicable : Bytes area → applyRefusal header area receiver hold list ≡ 0 → Applicable header area receiver hold list
+  applicable bytes e =
+      let passed = apply-passed header area receiver hold list e in
+      let buffers = passed .buffers in
+      let t = area-passed part (piecesOf (header .kind) area) (passed .read) in
+      record {
+        area-size = buffers .sized;
+        hold-size = buffers .long;
+        list-size = buffers .room;
+        held = buffers .most;
+        may-be-sent = passed .fits;
+        pieces = t .pieces;
+        has = record {
+          data-frame = λ d. read-allowed area (t .pieces) bytes (sym (data-records (header .kind) area d) ∙ t .are);
           other-frame = λ d. some-one [] (t .pieces) (sym (other-records (header .kind) area d) ∙ t .are);
-          joined = t .fitting;
-        },
-      )
-
-  -- the records of what was built
-  built-records : (f : Acceptable taps frame receiver hold) → piecesOf (f .header .kind) (f .area) ≡ some (f .pieces)
-  built-records f = go (isData (f .header .kind)) refl
-    where
-      go : (test : Bool) → isData (f .header .kind) ≡ test → piecesOf (f .header .kind) (f .area) ≡ some (f .pieces)
-      go true t = data-records (f .header .kind) (f .area) t ∙ allowed-read (f .area) (f .pieces) (f .data-frame t)
-      go false t = other-records (f .header .kind) (f .area) t ∙ ap (λ (l : List Piece). some l) (sym (f .other-frame t))
-
-  backward : Arguments taps receiver hold list × Acceptable taps frame receiver hold → receiveRefusal taps frame receiver hold list ≡ 0
-  backward h =
-      let a = h .0 in
-      let f = h .1 in
-      let reserved = f .reserved in
-      let header = f .header in
-      let area = f .area in
-      let header-is : openedHeader taps frame ≡ header =
-      ap (openedHeader taps) (f .coded) ∙ built-header taps reserved header area (f .area-size) (f .may-be-sent) in
-      let area-is : openedArea taps frame ≡ area = ap (openedArea taps) (f .coded) ∙ built-area taps reserved header area (f .area-size) in
-      let part = heldPart header receiver hold in
-      receive-pass taps frame receiver hold list (record {
-        arguments = record {
-          allowed = a .allowed;
-          buffers = record {
-            sized = ap length (f .coded) ∙ frame-length reserved header taps area (f .area-size);
-            long = a .hold-size;
-            room = a .list-size;
-            most = a .held;
-          };
         };
-        opened = ap (λ (l : List ℕ). firstOf (frameTable taps l)) (f .coded) ∙ built-passes taps reserved header area (f .area-size) (f .may-be-sent);
-        read = (λ j. firstOf (areaTable (heldPart (header-is j) receiver hold) (piecesOf (header-is j .kind) (area-is j))))
-            ∙ (λ j. firstOf (areaTable part (built-records f j)))
-            ∙ read-as part (f .pieces)
-            ∙ rw (f .joined) refl;
+        joined = t .fitting;
+      }
+
+  applies : Applicable header area receiver hold list → applyRefusal header area receiver hold list ≡ 0
+  applies f =
+      apply-pass header area receiver hold list (record {
+        buffers = record { sized = f .area-size; long = f .hold-size; room = f .list-size; most = f .held };
+        fits = f .may-be-sent;
+        read = (λ j. firstOf (areaTable part (records-are header area (f .pieces) (f .has) j))) ∙ read-as part (f .pieces) ∙ rw (f .joined) refl;
       })
+
+  list-back-so : (pieces : List Piece) → HasPieces header area pieces → (missed packets listed : ℕ) (after : Receiver) (hold′ list′ : List ℕ)
+      → ApplyOutcome header area receiver hold list (Applied missed packets listed after) hold′ list′
+      → (packetsRead (take listed list′) ≡ some (onPieces part pieces .out)) × (packets ≡ length (onPieces part pieces .out))
+  list-back-so pieces has missed packets listed after hold′ list′ o =
+      rw (← joined-pieces header area receiver hold pieces (records-are header area pieces has))
+      (apply-read header area receiver hold list missed packets listed after hold′ list′ o)
 
 -- ---- the demand
 
@@ -176,5 +186,8 @@ demand2-holds = record {
   frame-back = open-of-built;
   frame-again = frame-again-so;
   sends = sends-so;
-  accepts-exactly = λ taps frame receiver hold list bytes. (forward taps frame receiver hold list bytes, backward taps frame receiver hold list bytes);
+  opens-exactly = λ taps frame buffer bytes. (openable taps frame buffer bytes, opens taps frame buffer);
+  applies-exactly = λ header area receiver hold list bytes.
+      (applicable header area receiver hold list bytes, applies header area receiver hold list);
+  list-back = list-back-so;
 }

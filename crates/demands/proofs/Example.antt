@@ -11,7 +11,7 @@ use native.Mathlib.Omega.{arith}
 use lib.ListN.{length, replicate}
 use borrow.Author.Tests.{eq-eqb}
 use Rattle.basics.specs.Lists.{zeros, Bytes}
-use Rattle.basics.specs.Sizes.{frameSize, queueSize, holdSize, listSize}
+use Rattle.basics.specs.Sizes.{areaSize, frameSize, queueSize, holdSize, listSize}
 use Rattle.lent.specs.Refusals.{firstOf, by}
 use Rattle.scrambler.specs.Scrambler.{tapsAllowed}
 use Rattle.header.specs.Header.{fieldsFit}
@@ -43,7 +43,8 @@ same-bytes byte small zero = tt
 same-bytes byte small (suc n) = (small, same-bytes byte small n)
 
 module _ (taps : ℕ) (allowed : tapsAllowed taps ≡ true) (fields : Fields) (fit : fieldsFit fields ≡ true) (out : List ℕ) (out-size : frameSize ≤ length out)
-    (list : List ℕ) (list-size : listSize ≤ length list) (queue : List ℕ) (queue-bytes : Bytes queue) (queue-size : length queue ≡ queueSize)
+    (area : List ℕ) (area-size : areaSize ≤ length area) (list : List ℕ) (list-size : listSize ≤ length list)
+    (queue : List ℕ) (queue-bytes : Bytes queue) (queue-size : length queue ≡ queueSize)
     (hold : List ℕ) (hold-size : length hold ≡ holdSize) where
   abbrev inputs : List Input
   inputs =
@@ -61,7 +62,7 @@ module _ (taps : ℕ) (allowed : tapsAllowed taps ≡ true) (fields : Fields) (f
   calls = callPut [] (putting.Refused 4) queue ∷ run taps allowed freshSender queue inputs
 
   abbrev pub ways : List Way
-  ways = pass list list-size ∷ lose ∷ spoil (zeros frameSize) list ∷ pass list list-size ∷ []
+  ways = pass area list area-size list-size ∷ lose ∷ spoil (zeros frameSize) area list ∷ pass area list area-size list-size ∷ []
 
   abbrev pub fates : List Fate
   fates = fatesOf taps freshReceiver hold ways (framesSent calls)

@@ -6,19 +6,20 @@ use mathlib.Core.Bool.{true}
 use mathlib.Core.List.{List, [], _∷_}
 use Prim.Native.Nat.{ℕ, zero, suc, _≤_, _<_}
 use native.Mathlib.Omega.{arith}
-use lib.ListN.{length}
+use lib.ListN.{length, take}
 use Rattle.basics.specs.Lists.{Bytes}
-use Rattle.basics.specs.Sizes.{holdSize, listSize}
+use Rattle.basics.specs.Sizes.{areaSize, holdSize, listSize}
 use Rattle.scrambler.specs.Scrambler.{tapsAllowed}
 use Rattle.header.specs.declared.Fields.{Fields}
 use Rattle.link.specs.Ledger.{Mark, lost, accepted, Limit}
 use Rattle.sender.specs.Put.{freshSender}
 use Rattle.sender.specs.declared.Sender.{Sender}
-use Rattle.receiver.specs.Applying.{freshReceiver}
-use Rattle.receiving.specs.Receiving.{ReceiveOutcome, receiverAfter}
+use Rattle.opening.specs.declared.OpenAnswer.{OpenAnswer}
+use Rattle.opening.specs.declared.OpenAnswer.the-variants as opening
+use Rattle.receiver.specs.Applying.{freshReceiver, receiverAfter}
 use Rattle.receiver.specs.declared.Receiver.{Receiver}
-use Rattle.receiving.specs.declared.ReceiveAnswer.{ReceiveAnswer}
-use Rattle.receiving.specs.declared.ReceiveAnswer.the-variants as receiving
+use Rattle.receiver.specs.declared.ApplyAnswer.{ApplyAnswer}
+use Rattle.receiver.specs.declared.ApplyAnswer.the-variants as applying
 use Rattle.demands.specs.Demand3.{
   SenderCall,
   callPut,
@@ -27,6 +28,9 @@ use Rattle.demands.specs.Demand3.{
   nextLeaves,
   SenderCalls,
   framesSent,
+  BothCalls,
+  AppliedAs,
+  Receives,
   Fate,
   missing,
   arrives,
@@ -63,94 +67,120 @@ module _ (taps : ℕ) where
       let called = every-call-holds .next-frame taps fields sender queue out .answered in
       (called .1 .1, any-calls inputs (nextLeaves sender (called .0)) (called .1 .0 .0))
 
--- ---- any ways of the frames: lost; come as sent, with any list buffer of the listed size; come as any other bytes, with any list buffer
+-- ---- any ways of the frames: lost; come as sent, with any buffers of the listed sizes for area and list; come as any other bytes, with any buffers
 
 pub data Way : Type 0 where
   lose : Way
-  pass : (list : List ℕ) → listSize ≤ length list → Way
-  spoil : (other list : List ℕ) → Way
+  pass : (area list : List ℕ) → areaSize ≤ length area → listSize ≤ length list → Way
+  spoil : (other area list : List ℕ) → Way
+
+-- what was opened is answered when it is applied
+applied : (opened : OpenAnswer) (area : List ℕ) (receiver : Receiver) (hold list : List ℕ)
+    → (answer : ApplyAnswer) × ((lent : List ℕ × List ℕ) × AppliedAs opened area receiver hold list answer (lent .0) (lent .1))
+applied (opening.Opened header) area receiver hold list = every-call-holds .apply header area receiver hold list .answered
+applied (opening.Refused number) area receiver hold list = (applying.Refused number, ((hold, list), (refl, refl, refl)))
 
 -- other bytes that are refused are the frame, damaged; where they are not refused, let the frame be lost
-abbrev pub spoiled : List ℕ → List ℕ → ReceiveAnswer → List ℕ → List ℕ → Fate
-spoiled other list (receiving.Received header missed packets listed receiver) left after = missing
-spoiled other list (receiving.Refused number) left after = damaged other list number left after
+abbrev pub spoiled : List ℕ → BothCalls → ApplyAnswer → Fate
+spoiled other both (applying.Applied missed packets listed receiver) = missing
+spoiled other both (applying.Refused number) = damaged other number both
 
-abbrev pub heldThen : ReceiveAnswer → List ℕ → List ℕ → List ℕ
-heldThen (receiving.Received header missed packets listed receiver) hold left = hold
-heldThen (receiving.Refused number) hold left = left
+abbrev pub heldThen : ApplyAnswer → List ℕ → List ℕ → List ℕ
+heldThen (applying.Applied missed packets listed receiver) hold left = hold
+heldThen (applying.Refused number) hold left = left
 
 module _ (taps : ℕ) where
+  -- the two both of a frame
+  pub received : (frame : List ℕ) (receiver : Receiver) (hold area list : List ℕ) → (both : BothCalls) × Receives taps frame receiver hold both
+  received frame receiver hold area list =
+      let first = every-call-holds .open-frame taps frame area .answered in
+      let then = applied (first .0) (take 1908 (first .1 .0)) receiver hold list in (
+        record {
+          area = area;
+          opened = first .0;
+          area′ = first .1 .0;
+          list = list;
+          answer = then .0;
+          hold′ = then .1 .0 .0;
+          list′ = then .1 .0 .1;
+        },
+        (first .1 .1, then .1 .1),
+      )
+
   abbrev pub fatesOf : Receiver → List ℕ → List Way → List (List ℕ) → List Fate
   fatesOf receiver hold [] frames = []
   fatesOf receiver hold (way ∷ ways) [] = []
   fatesOf receiver hold (lose ∷ ways) (frame ∷ frames) = missing ∷ fatesOf receiver hold ways frames
-  fatesOf receiver hold (pass list room ∷ ways) (frame ∷ frames) =
-      let called = every-call-holds .receive taps frame receiver hold list .answered in
-      arrives list (called .0) (called .1 .0 .0) (called .1 .0 .1) ∷ fatesOf (receiverAfter receiver (called .0)) (called .1 .0 .0) ways frames
-  fatesOf receiver hold (spoil other list ∷ ways) (frame ∷ frames) =
-      let called = every-call-holds .receive taps other receiver hold list .answered in
-      spoiled other list (called .0) (called .1 .0 .0) (called .1 .0 .1) ∷ fatesOf receiver (heldThen (called .0) hold (called .1 .0 .0)) ways frames
+  fatesOf receiver hold (pass area list area-room list-room ∷ ways) (frame ∷ frames) =
+      let both = received frame receiver hold area list .0 in
+      arrives both ∷ fatesOf (receiverAfter receiver (both .answer)) (both .hold′) ways frames
+  fatesOf receiver hold (spoil other area list ∷ ways) (frame ∷ frames) =
+      let both = received other receiver hold area list .0 in
+      spoiled other both (both .answer) ∷ fatesOf receiver (heldThen (both .answer) hold (both .hold′)) ways frames
 
-  spoiled-meets : (other list : List ℕ) (receiver : Receiver) (hold : List ℕ) (answer : ReceiveAnswer) (left after : List ℕ)
-      → ReceiveOutcome taps other receiver hold list answer left after → (frame : List ℕ) (fates : List Fate) (frames : List (List ℕ))
-      → ReceiverCalls taps receiver (heldThen answer hold left) fates frames
-      → ReceiverCalls taps receiver hold (spoiled other list answer left after ∷ fates) (frame ∷ frames)
-  spoiled-meets other list receiver hold (receiving.Received header missed packets listed next) left after o frame fates frames h = h
-  spoiled-meets other list receiver hold (receiving.Refused number) left after o frame fates frames h = (o, h)
+  spoiled-meets : (other : List ℕ) (receiver : Receiver) (hold : List ℕ) (both : BothCalls) → Receives taps other receiver hold both
+      → (answer : ApplyAnswer) → both .answer ≡ answer → (frame : List ℕ) (fates : List Fate) (frames : List (List ℕ))
+      → ReceiverCalls taps receiver (heldThen answer hold (both .hold′)) fates frames
+      → ReceiverCalls taps receiver hold (spoiled other both answer ∷ fates) (frame ∷ frames)
+  spoiled-meets other receiver hold both met (applying.Applied missed packets listed next) e frame fates frames h = h
+  spoiled-meets other receiver hold both met (applying.Refused number) e frame fates frames h = (met, e, h)
 
   pub any-fates : (ways : List Way) (receiver : Receiver) (hold : List ℕ) (frames : List (List ℕ))
       → ReceiverCalls taps receiver hold (fatesOf receiver hold ways frames) frames
+  unfolding received
   any-fates [] receiver hold frames = tt
   any-fates (way ∷ ways) receiver hold [] = tt
   any-fates (lose ∷ ways) receiver hold (frame ∷ frames) = any-fates ways receiver hold frames
-  any-fates (pass list room ∷ ways) receiver hold (frame ∷ frames) =
-      let called = every-call-holds .receive taps frame receiver hold list .answered in
-      (room, called .1 .1, any-fates ways (receiverAfter receiver (called .0)) (called .1 .0 .0) frames)
-  any-fates (spoil other list ∷ ways) receiver hold (frame ∷ frames) =
-      let called = every-call-holds .receive taps other receiver hold list .answered in
-      let left = heldThen (called .0) hold (called .1 .0 .0) in
-      spoiled-meets other list receiver hold (called .0) (called .1 .0 .0) (called .1 .0 .1) (called .1 .1) frame (fatesOf receiver left ways frames) frames
+  any-fates (pass area list area-room list-room ∷ ways) receiver hold (frame ∷ frames) =
+      let called = received frame receiver hold area list in
+      let both = called .0 in
+      (area-room, list-room, called .1, any-fates ways (receiverAfter receiver (both .answer)) (both .hold′) frames)
+  any-fates (spoil other area list ∷ ways) receiver hold (frame ∷ frames) =
+      let called = received other receiver hold area list in
+      let both = called .0 in
+      let left = heldThen (both .answer) hold (both .hold′) in
+      spoiled-meets other receiver hold both (called .1) (both .answer) refl frame (fatesOf receiver left ways frames) frames
       (any-fates ways receiver left frames)
 
   no-more : (ways : List Way) (receiver : Receiver) (hold : List ℕ) (frames : List (List ℕ)) → length (fatesOf receiver hold ways frames) ≤ length ways
   no-more [] receiver hold frames = omega arith
   no-more (way ∷ ways) receiver hold [] = omega arith
   no-more (lose ∷ ways) receiver hold (frame ∷ frames) = omega (arith, no-more ways receiver hold frames)
-  no-more (pass list room ∷ ways) receiver hold (frame ∷ frames) =
-      let called = every-call-holds .receive taps frame receiver hold list .answered in
-      omega (arith, no-more ways (receiverAfter receiver (called .0)) (called .1 .0 .0) frames)
-  no-more (spoil other list ∷ ways) receiver hold (frame ∷ frames) =
-      let called = every-call-holds .receive taps other receiver hold list .answered in
-      omega (arith, no-more ways receiver (heldThen (called .0) hold (called .1 .0 .0)) frames)
+  no-more (pass area list area-room list-room ∷ ways) receiver hold (frame ∷ frames) =
+      let both = received frame receiver hold area list .0 in
+      omega (arith, no-more ways (receiverAfter receiver (both .answer)) (both .hold′) frames)
+  no-more (spoil other area list ∷ ways) receiver hold (frame ∷ frames) =
+      let both = received other receiver hold area list .0 in
+      omega (arith, no-more ways receiver (heldThen (both .answer) hold (both .hold′)) frames)
 
   -- the mark of each frame is that of its way
   abbrev pub wayMarks : List Way → ℕ → Mark
   wayMarks [] i = lost
-  wayMarks (pass list room ∷ ways) zero = accepted
+  wayMarks (pass area list area-room list-room ∷ ways) zero = accepted
   wayMarks (lose ∷ ways) zero = lost
-  wayMarks (spoil other list ∷ ways) zero = lost
+  wayMarks (spoil other area list ∷ ways) zero = lost
   wayMarks (way ∷ ways) (suc i) = wayMarks ways i
 
-  spoiled-lost : (other list : List ℕ) (answer : ReceiveAnswer) (left after : List ℕ) → markOf (spoiled other list answer left after) ≡ lost
-  spoiled-lost other list (receiving.Received header missed packets listed next) left after = refl
-  spoiled-lost other list (receiving.Refused number) left after = refl
+  spoiled-lost : (other : List ℕ) (both : BothCalls) (answer : ApplyAnswer) → markOf (spoiled other both answer) ≡ lost
+  spoiled-lost other both (applying.Applied missed packets listed next) = refl
+  spoiled-lost other both (applying.Refused number) = refl
 
   pub marked-so : (ways : List Way) (receiver : Receiver) (hold : List ℕ) (frames : List (List ℕ)) → length ways ≤ length frames
       → (i : ℕ) → marks (fatesOf receiver hold ways frames) i ≡ wayMarks ways i
   marked-so [] receiver hold frames h i = refl
   marked-so (way ∷ ways) receiver hold [] h i = absurd (omega arith)
   marked-so (lose ∷ ways) receiver hold (frame ∷ frames) h zero = refl
-  marked-so (pass list room ∷ ways) receiver hold (frame ∷ frames) h zero = refl
-  marked-so (spoil other list ∷ ways) receiver hold (frame ∷ frames) h zero =
-      let called = every-call-holds .receive taps other receiver hold list .answered in
-      spoiled-lost other list (called .0) (called .1 .0 .0) (called .1 .0 .1)
+  marked-so (pass area list area-room list-room ∷ ways) receiver hold (frame ∷ frames) h zero = refl
+  marked-so (spoil other area list ∷ ways) receiver hold (frame ∷ frames) h zero =
+      let both = received other receiver hold area list .0 in
+      spoiled-lost other both (both .answer)
   marked-so (lose ∷ ways) receiver hold (frame ∷ frames) h (suc i) = marked-so ways receiver hold frames (omega arith) i
-  marked-so (pass list room ∷ ways) receiver hold (frame ∷ frames) h (suc i) =
-      let called = every-call-holds .receive taps frame receiver hold list .answered in
-      marked-so ways (receiverAfter receiver (called .0)) (called .1 .0 .0) frames (omega arith) i
-  marked-so (spoil other list ∷ ways) receiver hold (frame ∷ frames) h (suc i) =
-      let called = every-call-holds .receive taps other receiver hold list .answered in
-      marked-so ways receiver (heldThen (called .0) hold (called .1 .0 .0)) frames (omega arith) i
+  marked-so (pass area list area-room list-room ∷ ways) receiver hold (frame ∷ frames) h (suc i) =
+      let both = received frame receiver hold area list .0 in
+      marked-so ways (receiverAfter receiver (both .answer)) (both .hold′) frames (omega arith) i
+  marked-so (spoil other area list ∷ ways) receiver hold (frame ∷ frames) h (suc i) =
+      let both = received other receiver hold area list .0 in
+      marked-so ways receiver (heldThen (both .answer) hold (both .hold′)) frames (omega arith) i
 
 -- few frames are within the limit
 accepted-inside : (fates : List Fate) (i : ℕ) → marks fates i ≡ accepted → i < length fates

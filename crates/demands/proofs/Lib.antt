@@ -2,6 +2,7 @@ pub mod Cases
 pub mod Outcomes
 pub mod Demand1
 pub mod CallsForC
+pub mod ReadBack
 pub mod Demand2
 pub mod Sender
 pub mod Receiver
@@ -9,6 +10,6 @@ pub mod Demand3
 pub mod Histories
 pub mod Runs
 pub mod Example
-pub mod ReadBack
 pub mod Consequences1
 pub mod Consequences2
+pub mod Eleven

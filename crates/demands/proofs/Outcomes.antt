@@ -1,7 +1,7 @@
 -- Demand 1 of a call, from what its contract determines by the number of its table.
 use mathlib.Core.Path.{_≡_, refl, sym, ap, _∙_}
-use mathlib.Core.Bool.{Bool, true, false, _||_}
-use mathlib.Core.List.{List, [], _∷_}
+use mathlib.Core.Bool.{Bool, true, false, cond, _||_}
+use mathlib.Core.List.{List, [], _∷_, _++_}
 use Prim.Native.Nat.{ℕ}
 use lib.Dec.{eqb}
 use borrow.Author.Tests.{eq-eqb}
@@ -28,6 +28,12 @@ first-among (row ∷ rows) ne = go (row .applies) refl (first-among rows)
         → among (firstOf (row ∷ rows)) (numbersOf (row ∷ rows)) ≡ true
     go true t more = rw (t, eq-eqb (row .number) (row .number) refl)
     go false t more = rw t (behind (eqb (firstOf rows) (row .number)) (more (λ z. ne (rw t z))))
+
+-- a row that does not apply changes no number
+pub left-out : (a b : List Row) (row : Row) → row .applies ≡ false → firstOf (a ++ row ∷ b) ≡ firstOf (a ++ b)
+unfolding firstOf
+left-out [] b row e = rw e
+left-out (first ∷ a) b row e = ap (λ (n : ℕ). cond (first .applies) (first .number) n) (left-out a b row e)
 
 -- a buffer that is not written
 pub unwritten : {B : Type 0} (number : ℕ) (new old : B) → (number ≡ 0 → ⊥) → by number new old ≡ old

@@ -1,41 +1,52 @@
--- The receiver's half of a history: what `receive` does with a frame that carries pieces is what `Machine` of crate link says of these pieces.
-use mathlib.Core.Path.{_≡_, refl, ap, sym, _∙_}
+-- The receiver's half of a history: what `open` and `apply` do with a frame that carries pieces is what `Machine` of crate link says of these pieces.
+use mathlib.Core.Path.{_≡_, refl, ap, subst, sym, _∙_}
 use mathlib.Core.Bool.{Bool, true, false, cond}
 use mathlib.Core.Option.{Option, some}
 use mathlib.Core.List.{List, [], _∷_}
 use Prim.Native.Nat.{ℕ, suc, _+_, _%_, _≤_}
 use native.Mathlib.Nat.{add-zero, add-suc, suc-add}
 use native.Mathlib.Omega.{arith}
-use lib.ListN.{length}
+use lib.ListN.{length, take}
 use Rattle.basics.specs.Counts.{nextTxfn}
 use Rattle.lent.specs.Refusals.{firstOf}
+use Rattle.lent.specs.Written.{written}
 use Rattle.lent.proofs.Written.{written-length, written-front}
 use Rattle.scrambler.specs.Scrambler.{tapsAllowed}
 use Rattle.header.specs.Header.{allOnes}
 use Rattle.header.specs.declared.Header.{Header}
-use Rattle.opening.specs.Opening.{frameTable, openedHeader, openedArea}
-use Rattle.frame.proofs.Laws.{frame-length}
-use Rattle.opening.proofs.Built.{built-passes}
+use Rattle.opening.specs.declared.OpenAnswer.{OpenAnswer}
+use Rattle.opening.specs.declared.OpenAnswer.the-variants as opening
+use Rattle.opening.proofs.Theorems.{open-of-built}
 use Rattle.link.proofs.Machine as machine
 use Rattle.link.specs.Link.{Packet, Piece, fits, Answer}
 use Rattle.link.proofs.Machine.{deliver}
 use Rattle.link.specs.Ledger.{Mark}
 use Rattle.link.specs.Store.{layoutPackets}
-use Rattle.receiver.specs.Applying.{freshReceiver, piecesOf, missedCount, heldPart, joined, areaTable}
-use Rattle.receiving.specs.Receiving.{receiveRefusal, ReceiveOutcome, receiverAfter}
+use Rattle.receiver.specs.Applying.{freshReceiver, piecesOf, missedCount, heldPart, joined, areaTable, applyRefusal, ApplyOutcome, receiverAfter}
 use Rattle.receiver.specs.declared.Receiver.{Receiver}
-use Rattle.receiving.specs.declared.ReceiveAnswer.{ReceiveAnswer}
-use Rattle.receiving.specs.declared.ReceiveAnswer.the-variants as answer
+use Rattle.receiver.specs.declared.ApplyAnswer.{ApplyAnswer}
+use Rattle.receiver.specs.declared.ApplyAnswer.the-variants as answer
 use Rattle.receiver.proofs.Machine.{standing, machine-takes, machine-refuses}
-use Rattle.receiver.proofs.Tables.{read-as}
-use Rattle.receiver.proofs.Laws.{joined-well}
-use Rattle.receiving.proofs.Opened.{ArgumentPassed, argument-pass, by-area}
-use Rattle.receiving.proofs.Receiving.{receive-pass, accepted-answer, accepted-hold, accepted-list, refused-answer, refused-hold}
+use Rattle.receiver.proofs.Tables.{BuffersPassed, read-as, opened-by-area}
+use Rattle.receiver.proofs.Laws.{accepted-answer, accepted-hold, accepted-list, refused-answer, refused-hold, apply-pass, by-opened, joined-well}
 use Rattle.list.specs.Entries.{packetsRead}
 use Rattle.list.proofs.Whole.{list-read}
-use Rattle.demands.specs.Demand3.{Fate, missing, arrives, damaged, ReceiverCalls, marks, readOut, learnedFrom, learned}
+use Rattle.demands.specs.Demand3.{
+  BothCalls,
+  AppliedAs,
+  Receives,
+  Fate,
+  missing,
+  arrives,
+  damaged,
+  ReceiverCalls,
+  marks,
+  readOut,
+  learnedFrom,
+  learned,
+}
 use Rattle.demands.proofs.Demand1.{every-call-holds}
-use Rattle.demands.proofs.Sender.{Sends, AllSend, number-is, pieces-are}
+use Rattle.demands.proofs.Sender.{Sends, AllSend, own-pieces}
 
 -- The state and the hold's bytes stand for a receiver of `Machine`, and are not refused for what they are.
 pub record Holds (receiver : Receiver) (hold : List ℕ) (r : machine.Receiver) : Type 0 where
@@ -46,28 +57,41 @@ pub record Holds (receiver : Receiver) (hold : List ℕ) (r : machine.Receiver) 
 pub fresh-holds : (hold : List ℕ) → length hold ≡ 9000 → Holds freshReceiver hold machine.fresh
 fresh-holds hold e = record { stands = refl; most = omega arith; long = e }
 
--- whatever is refused, the hold stays
-hold-stays : (taps : ℕ) (frame : List ℕ) (receiver : Receiver) (hold list : List ℕ) (number : ℕ) (hold′ list′ : List ℕ)
-    → ReceiveOutcome taps frame receiver hold list (answer.Refused number) hold′ list′ → hold′ ≡ hold
-hold-stays taps frame receiver hold list number hold′ list′ o =
+-- whatever is refused, by the one call or the other, the hold stays
+hold-stays : (opened : OpenAnswer) (area : List ℕ) (receiver : Receiver) (hold list : List ℕ) (number : ℕ) (left after : List ℕ)
+    → AppliedAs opened area receiver hold list (answer.Refused number) left after → left ≡ hold
+hold-stays (opening.Opened header) area receiver hold list number left after o =
     ap (λ (lent : List ℕ × List ℕ). lent .0)
-    (every-call-holds .receive taps frame receiver hold list .refusal (answer.Refused number) number (hold′, list′) o refl .1)
+    (every-call-holds .apply header area receiver hold list .refusal (answer.Refused number) number (left, after) o refl .1)
+hold-stays (opening.Refused other) area receiver hold list number left after o = o .1
 
 -- ---- a frame that carries pieces is received as `Machine` says
 
 -- what the caller learns, and what state and hold stand for after it, are what `Machine` says
-pub record Takes (receiver : Receiver) (r : ReceiveAnswer) (hold′ list′ : List ℕ) (c : machine.Received) : Type 0 where
+pub record Takes (receiver : Receiver) (r : ApplyAnswer) (hold′ list′ : List ℕ) (c : machine.Received) : Type 0 where
   pub learns : learnedFrom r list′ ≡ c .answer
   pub holds : Holds (receiverAfter receiver r) hold′ (c .state)
 
-module _ (taps : ℕ) (frame : List ℕ) (receiver : Receiver) (hold list : List ℕ) (r : ReceiveAnswer) (hold′ list′ : List ℕ)
-    (o : ReceiveOutcome taps frame receiver hold list r hold′ list′) (allowed : tapsAllowed taps ≡ true) (room : 10907 ≤ length list)
+module _ (taps : ℕ) (frame : List ℕ) (receiver : Receiver) (hold : List ℕ) (both : BothCalls) (met : Receives taps frame receiver hold both)
+    (allowed : tapsAllowed taps ≡ true) (area-room : 1908 ≤ length (both .area)) (list-room : 10907 ≤ length (both .list))
     (i : ℕ) (pieces : List Piece) (s : Sends taps frame i pieces) (model : machine.Receiver) (h : Holds receiver hold model) where
   abbrev header : Header
-  header = openedHeader taps frame
+  header = s .carries .header
 
   abbrev area : List ℕ
-  area = openedArea taps frame
+  area = s .opened .area
+
+  -- it is opened to what was sent, ..
+  opens : (both .opened ≡ opening.Opened header) × (both .area′ ≡ written (both .area) 0 area)
+  opens =
+      open-of-built taps allOnes header area (both .area) (both .opened) (both .area′) allowed (s .carries .fits-header) (s .carries .long) area-room
+      (rw (s .carries .coded) at (met .0))
+
+  -- .. and applied as opened
+  applies : ApplyOutcome header area receiver hold (both .list) (both .answer) (both .hold′) (both .list′)
+  applies =
+      let cut : take 1908 (both .area′) ≡ area = ap (take 1908) (opens .1) ∙ written-front (both .area) area 1908 (s .carries .long) in
+      rw (opens .0, cut) at (met .1)
 
   abbrev part : List ℕ
   part = heldPart header receiver hold
@@ -82,41 +106,26 @@ module _ (taps : ℕ) (frame : List ℕ) (receiver : Receiver) (hold list : List
   as-model = machine.receive model (i % 65536) pieces
 
   comes-so : machine.receive (standing receiver hold) (header .txfn .0) pieces ≡ as-model
-  comes-so = λ j. machine.receive (h .stands j) (number-is taps s j) pieces
+  comes-so = λ j. machine.receive (h .stands j) (s .carries .counted j) pieces
 
-  arguments : ArgumentPassed taps frame receiver hold list
-  arguments =
-      let c = s .carries in
-      record {
-        allowed = allowed;
-        buffers = record {
-          sized = ap length (c .coded) ∙ frame-length allOnes (c .header) taps (s .opened .area) (c .long);
-          long = h .long;
-          room = room;
-          most = h .most;
-        };
-      }
-
-  opens : firstOf (frameTable taps frame) ≡ 0
-  opens =
-      let c = s .carries in
-      ap (λ (f : List ℕ). firstOf (frameTable taps f)) (c .coded) ∙ built-passes taps allOnes (c .header) (s .opened .area) (c .long) (c .fits-header)
+  buffers : BuffersPassed area (receiver .held) hold (both .list)
+  buffers = record { sized = s .carries .long; long = h .long; room = list-room; most = h .most }
 
   -- the rows 14 and 15, by whether the first piece fits
   area-number : (test : Bool) → fits part pieces ≡ test → firstOf (areaTable part (piecesOf (header .kind) area)) ≡ cond test 0 15
   area-number test e =
-      ap (λ (records : Option (List Piece)). firstOf (areaTable part records)) (pieces-are taps s) ∙ read-as part pieces ∙ ap (λ (t : Bool). cond t 0 15) e
+      ap (λ (records : Option (List Piece)). firstOf (areaTable part records)) (own-pieces taps s) ∙ read-as part pieces ∙ ap (λ (t : Bool). cond t 0 15) e
 
-  accepts : fits part pieces ≡ true → Takes receiver r hold′ list′ as-model
+  accepts : fits part pieces ≡ true → Takes receiver (both .answer) (both .hold′) (both .list′) as-model
   accepts e =
       let read = area-number true e in
-      let z = receive-pass taps frame receiver hold list (record { arguments = arguments; opened = opens; read = read }) in
+      let z = apply-pass header area receiver hold (both .list) (record { buffers = buffers; fits = s .carries .fits-header; read = read }) in
       let well = joined-well header area receiver hold (h .most) read in
-      let is = sym comes-so ∙ machine-takes header area receiver hold pieces (pieces-are taps s) e in
-      rw (is, accepted-answer o z, accepted-hold o z, accepted-list o z)
+      let is = sym comes-so ∙ machine-takes header area receiver hold pieces (own-pieces taps s) e in
+      rw (is, accepted-answer applies z, accepted-hold applies z, accepted-list applies z)
       (record {
         learns = ap (λ (l : List ℕ). readOut (missedCount header receiver) (packetsRead l))
-            (written-front list (layoutPackets out) (length (layoutPackets out)) refl)
+            (written-front (both .list) (layoutPackets out) (length (layoutPackets out)) refl)
             ∙ ap (readOut (missedCount header receiver)) (list-read out (well .packets));
         holds = record {
           stands = λ j. record { expected = some (nextTxfn (header .txfn .0)); held = written-front hold held (length held) refl j };
@@ -125,19 +134,20 @@ module _ (taps : ℕ) (frame : List ℕ) (receiver : Receiver) (hold list : List
         };
       })
 
-  refuses : fits part pieces ≡ false → Takes receiver r hold′ list′ as-model
+  refuses : fits part pieces ≡ false → Takes receiver (both .answer) (both .hold′) (both .list′) as-model
   refuses e =
-      let n = receiveRefusal taps frame receiver hold list in
-      let fifteen : n ≡ 15 = by-area taps frame receiver hold list (argument-pass taps frame receiver hold list arguments) opens ∙ area-number false e in
+      let n = applyRefusal header area receiver hold (both .list) in
+      let fifteen : n ≡ 15 =
+      by-opened header area receiver hold (both .list) buffers ∙ opened-by-area header area part (s .carries .fits-header) ∙ area-number false e in
       let ne : n ≡ 0 → ⊥ = λ z. omega arith in
-      let is = sym comes-so ∙ machine-refuses header area receiver hold pieces (pieces-are taps s) e in
-      let said : r ≡ answer.Refused 15 = refused-answer o ne ∙ ap (λ (k : ℕ). answer.Refused k) fifteen in
-      rw (is, said, refused-hold o ne) (record { learns = refl; holds = record { stands = refl; most = h .most; long = h .long } })
+      let is = sym comes-so ∙ machine-refuses header area receiver hold pieces (own-pieces taps s) e in
+      let said : both .answer ≡ answer.Refused 15 = refused-answer applies ne ∙ ap (λ (k : ℕ). answer.Refused k) fifteen in
+      rw (is, said, refused-hold applies ne) (record { learns = refl; holds = record { stands = refl; most = h .most; long = h .long } })
 
-  pub receives : Takes receiver r hold′ list′ as-model
+  pub receives : Takes receiver (both .answer) (both .hold′) (both .list′) as-model
   receives = go (fits part pieces) refl
     where
-      go : (test : Bool) → fits part pieces ≡ test → Takes receiver r hold′ list′ as-model
+      go : (test : Bool) → fits part pieces ≡ test → Takes receiver (both .answer) (both .hold′) (both .list′) as-model
       go true e = accepts e
       go false e = refuses e
 
@@ -167,13 +177,16 @@ module _ (taps : ℕ) (allowed : tapsAllowed taps ≡ true) (mark : ℕ → Mark
   hears (fate ∷ fates) i receiver hold model (frame ∷ frames) [] e h c d = absurd c
   hears (missing ∷ fates) i receiver hold model (frame ∷ frames) (pieces ∷ more) e h c d =
       rw (now i (marks (missing ∷ fates)) e) (hears fates (suc i) receiver hold model frames more (then i (marks (missing ∷ fates)) e) h (c .1) d)
-  hears (damaged other list number left after ∷ fates) i receiver hold model (frame ∷ frames) (pieces ∷ more) e h c d =
-      let m = marks (damaged other list number left after ∷ fates) in
-      let same : left ≡ hold = hold-stays taps other receiver hold list number left after (d .0) in
-      rw (now i m e) (hears fates (suc i) receiver left model frames more (then i m e) (rw same h) (c .1) (d .1))
-  hears (arrives list r left after ∷ fates) i receiver hold model (frame ∷ frames) (pieces ∷ more) e h c d =
-      let m = marks (arrives list r left after ∷ fates) in
-      let t = receives taps frame receiver hold list r left after (d .1) allowed (d .0) i pieces (c .0) model h in
+  hears (damaged other number both ∷ fates) i receiver hold model (frame ∷ frames) (pieces ∷ more) e h c d =
+      let m = marks (damaged other number both ∷ fates) in
+      let refused = subst (λ (r : ApplyAnswer). AppliedAs (both .opened) (take 1908 (both .area′)) receiver hold (both .list) r (both .hold′) (both .list′))
+      (d .1) (d .0 .1) in
+      let same : both .hold′ ≡ hold =
+      hold-stays (both .opened) (take 1908 (both .area′)) receiver hold (both .list) number (both .hold′) (both .list′) refused in
+      rw (now i m e) (hears fates (suc i) receiver (both .hold′) model frames more (then i m e) (rw same h) (c .1) (d .2))
+  hears (arrives both ∷ fates) i receiver hold model (frame ∷ frames) (pieces ∷ more) e h c d =
+      let m = marks (arrives both ∷ fates) in
+      let t = receives taps frame receiver hold both (d .2) allowed (d .0) (d .1) i pieces (c .0) model h in
       let said = machine.receive model (i % 65536) pieces in
-      let ih = hears fates (suc i) (receiverAfter receiver r) left (said .state) frames more (then i m e) (t .holds) (c .1) (d .2) in
+      let ih = hears fates (suc i) (receiverAfter receiver (both .answer)) (both .hold′) (said .state) frames more (then i m e) (t .holds) (c .1) (d .3) in
       rw (now i m e, t .learns) (ap (λ (l : List Answer). said .answer ∷ l) ih)

@@ -77,18 +77,17 @@ module _ (taps : ℕ) where
     abbrev area : List ℕ
     area = s .opened .area
 
-    pub header-is : openedHeader taps frame ≡ header
+    pub own-pieces : piecesOf (header .kind) area ≡ some pieces
+    own-pieces = same-pieces (header .kind) (s .opened) (s .carries .kind-is) ∙ s .has
+
+    header-is : openedHeader taps frame ≡ header
     header-is = ap (openedHeader taps) (s .carries .coded) ∙ built-header taps allOnes header area (s .carries .long) (s .carries .fits-header)
 
-    pub area-is : openedArea taps frame ≡ area
+    area-is : openedArea taps frame ≡ area
     area-is = ap (openedArea taps) (s .carries .coded) ∙ built-area taps allOnes header area (s .carries .long)
 
-    pub number-is : openedHeader taps frame .txfn .0 ≡ i % 65536
-    number-is = ap (λ (h : Header). h .txfn .0) header-is ∙ s .carries .counted
-
-    pub pieces-are : piecesOf (openedHeader taps frame .kind) (openedArea taps frame) ≡ some pieces
-    pieces-are =
-        (λ j. piecesOf (header-is j .kind) (area-is j)) ∙ same-pieces (header .kind) (s .opened) (s .carries .kind-is) ∙ s .has
+    pieces-are : piecesOf (openedHeader taps frame .kind) (openedArea taps frame) ≡ some pieces
+    pieces-are = (λ j. piecesOf (header-is j .kind) (area-is j)) ∙ own-pieces
 
   pub all-carried : (i : ℕ) (frames : List (List ℕ)) (all : List (List Piece)) → AllSend i frames all → map (piecesCarried taps) frames ≡ all
   all-carried i [] [] h = refl

@@ -15,8 +15,10 @@ use Rattle.sender.specs.declared.PutAnswer.the-variants as putting
 use Rattle.sender.specs.declared.WaitingAnswer.the-variants as counting
 use Rattle.sending.specs.Next.{nextTable}
 use Rattle.sending.specs.declared.NextAnswer.the-variants as sending
-use Rattle.receiving.specs.Receiving.{receiveTable}
-use Rattle.receiving.specs.declared.ReceiveAnswer.the-variants as receiving
+use Rattle.opening.specs.Opening.{openTable}
+use Rattle.opening.specs.declared.OpenAnswer.the-variants as opening
+use Rattle.receiver.specs.Applying.{applyTable}
+use Rattle.receiver.specs.declared.ApplyAnswer.the-variants as applying
 use Rattle.list.specs.Entries.{entryTable}
 use Rattle.list.specs.declared.EntryAnswer.the-variants as listing
 use Rattle.flat.specs.Headers.{fieldsOf, headerOf}
@@ -25,16 +27,17 @@ use Rattle.flat.specs.declared.headers.FlatHeader.{FlatHeader}
 use Rattle.flat.specs.States.{receiverOf}
 use Rattle.flat.specs.declared.states.FlatReceiver.{FlatReceiver}
 use Rattle.flat.specs.declared.states.FlatSender.{FlatSender}
-use Rattle.flat.specs.Answers.{flatPut, flatWaiting, flatNext, flatReceive, flatCode, flatRead, flatEntry}
+use Rattle.flat.specs.Answers.{flatPut, flatWaiting, flatNext, flatOpen, flatApply, flatCode, flatRead, flatEntry}
 use Rattle.flat.specs.declared.FlatPut.{FlatPut}
 use Rattle.flat.specs.declared.FlatWaiting.{FlatWaiting}
 use Rattle.flat.specs.declared.FlatNext.{FlatNext}
-use Rattle.flat.specs.declared.FlatReceive.{FlatReceive}
+use Rattle.flat.specs.declared.FlatOpen.{FlatOpen}
+use Rattle.flat.specs.declared.FlatApply.{FlatApply}
 use Rattle.flat.specs.declared.FlatCode.{FlatCode}
 use Rattle.flat.specs.declared.FlatRead.{FlatRead}
 use Rattle.flat.specs.declared.FlatEntry.{FlatEntry}
 use Rattle.flat.specs.declared.FlatPacket.{FlatPacket}
-use Rattle.taqwelim.specs.Calls.{FreshSenderCall, PutCall, WaitingCall, NextCall, FreshReceiverCall, ReceiveCall, EntryCall, PacketCall}
+use Rattle.taqwelim.specs.Calls.{FreshSenderCall, PutCall, WaitingCall, NextCall, FreshReceiverCall, OpenCall, ApplyCall, EntryCall, PacketCall}
 use Rattle.taqwelim.specs.Calls.{CodeCall, ReadCall, LevelCall}
 use Rattle.demands.specs.Demand1.{Demand1}
 
@@ -57,10 +60,13 @@ pub record EveryCallForC : Type 0 where
       (nextTable taps (fieldsOf fields) (sender .start) (sender .used) queue out)
   pub fresh-receiver : Demand1 {Answer = FlatReceiver} {Lent = Unit {0}} (λ answer after. FreshReceiverCall answer) tt
       (λ answer. 0) (λ answer number. ⊥) []
-  pub receive : (taps : ℕ) (frame : List ℕ) (receiver : FlatReceiver) (hold list : List ℕ)
-      → Demand1 {Answer = FlatReceive} {Lent = List ℕ × List ℕ} (λ answer after. ReceiveCall taps frame receiver hold list answer (after .0) (after .1))
-      (hold, list) (λ answer. answer .refusal) (RefusesAs (λ number. flatReceive receiver (receiving.Refused number)))
-      (receiveTable taps frame (receiverOf receiver) hold list)
+  pub open-frame : (taps : ℕ) (frame area : List ℕ)
+      → Demand1 {Answer = FlatOpen} (OpenCall taps frame area) area (λ answer. answer .refusal)
+      (RefusesAs (λ number. flatOpen (opening.Refused number))) (openTable taps frame area)
+  pub apply : (header : FlatHeader) (area : List ℕ) (receiver : FlatReceiver) (hold list : List ℕ)
+      → Demand1 {Answer = FlatApply} {Lent = List ℕ × List ℕ} (λ answer after. ApplyCall header area receiver hold list answer (after .0) (after .1))
+      (hold, list) (λ answer. answer .refusal) (RefusesAs (λ number. flatApply receiver (applying.Refused number)))
+      (applyTable (headerOf header) area (receiverOf receiver) hold list)
   pub entry : (list : List ℕ) (position : ℕ)
       → Demand1 {Answer = FlatEntry} {Lent = Unit {0}} (λ answer after. EntryCall list position answer) tt (λ answer. answer .refusal)
       (RefusesAs (λ number. flatEntry (listing.Refused number))) (entryTable list position)

@@ -30,12 +30,9 @@ use Rattle.sender.specs.declared.WaitingAnswer.the-variants as counting
 use Rattle.sending.specs.declared.NextAnswer.{NextAnswer}
 use Rattle.sending.specs.declared.NextAnswer.the-variants as sending
 use Rattle.receiver.specs.Applying.{applyTable, applyNumber, ApplyOutcome}
-use Rattle.receiving.specs.Receiving.{receiveTable, receiveNumber, ReceiveOutcome}
 use Rattle.receiver.specs.declared.Receiver.{Receiver}
 use Rattle.receiver.specs.declared.ApplyAnswer.{ApplyAnswer}
 use Rattle.receiver.specs.declared.ApplyAnswer.the-variants as applying
-use Rattle.receiving.specs.declared.ReceiveAnswer.{ReceiveAnswer}
-use Rattle.receiving.specs.declared.ReceiveAnswer.the-variants as receiving
 use Rattle.list.specs.Entries.{entryTable, entryNumber, EntryOutcome, PacketOutcome}
 use Rattle.list.specs.declared.EntryAnswer.{EntryAnswer}
 use Rattle.list.specs.declared.EntryAnswer.the-variants as listing
@@ -67,11 +64,6 @@ pub record EveryCall : Type 0 where
   pub next-frame : (taps : ℕ) (fields : Fields) (sender : Sender) (queue out : List ℕ)
       → Demand1 {Answer = NextAnswer} {Lent = List ℕ × List ℕ} (λ answer after. NextOutcome taps fields sender queue out answer (after .0) (after .1))
       (queue, out) nextNumber (λ answer number. answer ≡ sending.Refused number) (nextTable taps fields (sender .start) (sender .used) queue out)
-  pub receive : (taps : ℕ) (frame : List ℕ) (receiver : Receiver) (hold list : List ℕ)
-      → Demand1 {Answer = ReceiveAnswer} {Lent = List ℕ × List ℕ}
-      (λ answer after. ReceiveOutcome taps frame receiver hold list answer (after .0) (after .1))
-      (hold, list) receiveNumber (λ answer number. answer ≡ receiving.Refused number) (receiveTable taps frame receiver hold list)
-  -- the two halves of receiving
   pub open-frame : (taps : ℕ) (frame area : List ℕ)
       → Demand1 {Answer = OpenAnswer} (OpenOutcome taps frame area) area openNumber (λ answer number. answer ≡ opening.Refused number)
       (openTable taps frame area)

@@ -24,10 +24,10 @@ use Rattle.header.specs.declared.FrameKind.the-variants.{Idle, Data}
 use Rattle.header.specs.declared.Header.{Header}
 use Rattle.header_reading.specs.declared.ReadAnswer.the-variants.{Read}
 use Rattle.frame.specs.Frame.{frameBytes, frameBytesWith}
-use Rattle.opening.specs.Opening.{openedReserved, OpenOutcome}
+use Rattle.opening.specs.Opening.{openRefusal, openedReserved, OpenOutcome}
 use Rattle.opening.specs.declared.OpenAnswer.{OpenAnswer}
 use Rattle.opening.specs.declared.OpenAnswer.the-variants.{Opened}
-use Rattle.link.specs.Link.{Piece, Queue, IsQueue, busy, fits}
+use Rattle.link.specs.Link.{Piece, Queue, IsQueue, busy, onPieces, fits}
 use Rattle.link.specs.Store.{layout}
 use Rattle.marks.specs.Queue.{usedIn, isRingWhole, waitingIn}
 use Rattle.packing.specs.Rules.{Allowed}
@@ -36,9 +36,10 @@ use Rattle.packing.specs.Records.{read}
 use Rattle.sending.specs.Next.{NextOutcome}
 use Rattle.sender.specs.declared.Sender.{Sender}
 use Rattle.sending.specs.declared.NextAnswer.the-variants.{Sent}
-use Rattle.receiver.specs.Applying.{isData, heldPart}
-use Rattle.receiving.specs.Receiving.{receiveRefusal}
+use Rattle.receiver.specs.Applying.{isData, heldPart, applyRefusal, ApplyOutcome}
 use Rattle.receiver.specs.declared.Receiver.{Receiver}
+use Rattle.receiver.specs.declared.ApplyAnswer.the-variants.{Applied}
+use Rattle.list.specs.Entries.{packetsRead}
 
 -- ---------------------------------------------------------------- the scrambler, and the queue's bytes
 
@@ -69,27 +70,34 @@ pub record SentFrame (taps : ℕ) (fields : Fields) (sender : Sender) (waiting :
   pub data-frame : busy waiting ≡ true → (kind ≡ Data) × Allowed area (fill areaSize waiting .pieces)
   pub idle-frame : busy waiting ≡ false → (kind ≡ Idle) × (area ≡ zeros areaSize)
 
--- ---------------------------------------------------------------- what receive accepts
+-- ---------------------------------------------------------------- what open accepts
 
--- the arguments are as listed (otherwise 1, 2 or 3)
-pub record Arguments (taps : ℕ) (receiver : Receiver) (hold list : List ℕ) : Type 0 where
-  pub allowed : tapsAllowed taps ≡ true
-  pub hold-size : length hold ≡ holdSize
-  pub list-size : listSize ≤ length list
-  pub held : receiver .held ≤ mostHeld
-
--- The frame is one that the standard and the packing rules define, but for its reserved bits, which may have any value (otherwise 2, 7 to 9, 11 to 14), and
--- its first record can be joined to what is held (otherwise 15).
-pub record Acceptable (taps : ℕ) (frame : List ℕ) (receiver : Receiver) (hold : List ℕ) : Type 0 where
+-- the frame is one that the standard and paper 01 define, but for its reserved bits, which may have any value (otherwise 2, 7 to 9, 11 to 13)
+pub record Openable (taps : ℕ) (frame : List ℕ) : Type 0 where
   pub reserved : ReservedBits
   pub header : Header
   pub area : List ℕ
-  pub pieces : List Piece
   pub coded : frame ≡ frameBytesWith taps reserved header area
   pub may-be-sent : headerFits header ≡ true
   pub area-size : length area ≡ areaSize
+
+-- ---------------------------------------------------------------- what apply accepts
+
+-- the pieces that a frame carries: those that the packing rules see in a DATA area, and none of another type, whatever its area
+pub record HasPieces (header : Header) (area : List ℕ) (pieces : List Piece) : Type 0 where
   pub data-frame : isData (header .kind) ≡ true → Allowed area pieces
   pub other-frame : isData (header .kind) ≡ false → pieces ≡ []
+
+pub record Applicable (header : Header) (area : List ℕ) (receiver : Receiver) (hold list : List ℕ) : Type 0 where
+  -- what is lent has the listed sizes (otherwise 2), the held length is a receiver's (otherwise 3), and the header may be sent (otherwise 11);
+  pub area-size : length area ≡ areaSize
+  pub hold-size : length hold ≡ holdSize
+  pub list-size : listSize ≤ length list
+  pub held : receiver .held ≤ mostHeld
+  pub may-be-sent : headerFits header ≡ true
+  -- the area is by the packing rules (otherwise 14), and its first piece can be joined to what is held (otherwise 15)
+  pub pieces : List Piece
+  pub has : HasPieces header area pieces
   pub joined : fits (heldPart header receiver hold) pieces ≡ true
 
 -- ---------------------------------------------------------------- the demand
@@ -114,15 +122,24 @@ pub record Demand2 : Type 0 where
   pub frame-back : (taps : ℕ) (reserved : ReservedBits) (header : Header) (area before : List ℕ) (answer : OpenAnswer) (after : List ℕ)
       → tapsAllowed taps ≡ true → headerFits header ≡ true → length area ≡ areaSize → areaSize ≤ length before
       → OpenOutcome taps (frameBytesWith taps reserved header area) before answer after → (answer ≡ Opened header) × (after ≡ written before 0 area)
-  -- .. and what is opened is what would be built of the answer, whose header may be sent, of the reserved bits that came and of the area written
+  -- .. what is opened is what would be built of the answer, whose header may be sent, of the reserved bits that came and of the area written
   pub frame-again : (taps : ℕ) (frame before : List ℕ) (header : Header) (after : List ℕ)
       → Bytes frame → OpenOutcome taps frame before (Opened header) after
       → (area : List ℕ) × ((frame ≡ frameBytesWith taps (openedReserved taps frame) header area) × (headerFits header ≡ true)
       × (length area ≡ areaSize) × (after ≡ written before 0 area))
+  -- .. and exactly such frames are opened, with allowed taps (otherwise 1) and room for the area (otherwise 2)
+  pub opens-exactly : (taps : ℕ) (frame buffer : List ℕ) → Bytes frame
+      → (openRefusal taps frame buffer ≡ 0) ↔ ((tapsAllowed taps ≡ true) × (areaSize ≤ length buffer) × Openable taps frame)
   -- next_frame: what stands at the front of its buffer, for a number of 16 bits
   pub sends : (taps : ℕ) (fields : Fields) (sender sender′ : Sender) (queue out : List ℕ) (kind : FrameKind) (queue′ out′ : List ℕ)
       → sender .next .0 < frameNumbers → NextOutcome taps fields sender queue out (Sent sender′ kind) queue′ out′
       → SentFrame taps fields sender (waitingIn queue (sender .start) (sender .used)) kind (take frameSize out′)
-  -- receive: it refuses nothing else
-  pub accepts-exactly : (taps : ℕ) (frame : List ℕ) (receiver : Receiver) (hold list : List ℕ) → Bytes frame
-      → (receiveRefusal taps frame receiver hold list ≡ 0) ↔ (Arguments taps receiver hold list × Acceptable taps frame receiver hold)
+  -- apply: exactly what the packing and the state allow is applied, ..
+  pub applies-exactly : (header : Header) (area : List ℕ) (receiver : Receiver) (hold list : List ℕ) → Bytes area
+      → (applyRefusal header area receiver hold list ≡ 0) ↔ Applicable header area receiver hold list
+  -- .. and the list that it writes is read back as the packets that the pieces complete
+  pub list-back : (header : Header) (area : List ℕ) (receiver : Receiver) (hold list : List ℕ) (pieces : List Piece) → HasPieces header area pieces
+      → (missed packets listed : ℕ) (after : Receiver) (hold′ list′ : List ℕ)
+      → ApplyOutcome header area receiver hold list (Applied missed packets listed after) hold′ list′
+      → (packetsRead (take listed list′) ≡ some (onPieces (heldPart header receiver hold) pieces .out))
+      × (packets ≡ length (onPieces (heldPart header receiver hold) pieces .out))

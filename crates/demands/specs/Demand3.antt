@@ -9,10 +9,12 @@ use mathlib.Core.List.{List, [], _∷_, map}
 use Prim.Native.Nat.{ℕ, zero, suc, _≤_}
 use lib.ListN.{length, take}
 use Rattle.basics.specs.Lists.{Bytes}
-use Rattle.basics.specs.Sizes.{frameSize, holdSize, listSize}
+use Rattle.basics.specs.Sizes.{areaSize, frameSize, holdSize, listSize}
 use Rattle.scrambler.specs.Scrambler.{tapsAllowed}
 use Rattle.header.specs.declared.Fields.{Fields}
-use Rattle.opening.specs.Opening.{openedHeader, openedArea}
+use Rattle.opening.specs.Opening.{openedHeader, openedArea, OpenOutcome}
+use Rattle.opening.specs.declared.OpenAnswer.{OpenAnswer}
+use Rattle.opening.specs.declared.OpenAnswer.the-variants as opening
 use Rattle.link.specs.Link.{Packet, Piece, Queue, Answer, taken, refused}
 use Rattle.link.specs.Ledger.{Mark, lost, accepted, Limit}
 use Rattle.link.specs.Demand3.{Demand3}
@@ -24,11 +26,10 @@ use Rattle.sender.specs.declared.PutAnswer.{PutAnswer}
 use Rattle.sender.specs.declared.PutAnswer.the-variants as put
 use Rattle.sending.specs.declared.NextAnswer.{NextAnswer}
 use Rattle.sending.specs.declared.NextAnswer.the-variants as next
-use Rattle.receiver.specs.Applying.{freshReceiver, piecesOf, orNone}
-use Rattle.receiving.specs.Receiving.{ReceiveOutcome, receiverAfter}
+use Rattle.receiver.specs.Applying.{freshReceiver, piecesOf, orNone, ApplyOutcome, receiverAfter}
 use Rattle.receiver.specs.declared.Receiver.{Receiver}
-use Rattle.receiving.specs.declared.ReceiveAnswer.{ReceiveAnswer}
-use Rattle.receiving.specs.declared.ReceiveAnswer.the-variants as receive
+use Rattle.receiver.specs.declared.ApplyAnswer.{ApplyAnswer}
+use Rattle.receiver.specs.declared.ApplyAnswer.the-variants as apply
 use Rattle.list.specs.Entries.{packetsRead}
 
 -- ---------------------------------------------------------------- the sender's calls, refused ones among them
@@ -81,30 +82,52 @@ piecesCarried taps frame = orNone (piecesOf (openedHeader taps frame .kind) (ope
 
 -- ---------------------------------------------------------------- what becomes of a frame, and the receiver's calls
 
--- It is missing; or it comes as it was sent; or it comes damaged, as any other bytes, and is refused. With one that comes: the list's buffer, the answer, the
--- bytes of the hold and of the list after the call.
+-- The two calls that a frame is given to (02, M-106): the bytes lent for its area, before and after `open`, and what that answered; the list's buffer; what
+-- came of both; the bytes of the hold and of the list after them.
+pub record BothCalls : Type 0 where
+  pub area : List ℕ
+  pub opened : OpenAnswer
+  pub area′ : List ℕ
+  pub list : List ℕ
+  pub answer : ApplyAnswer
+  pub hold′ : List ℕ
+  pub list′ : List ℕ
+
+-- what was opened is applied, once and as opened; where `open` refused, that refusal stands, and nothing is applied
+abbrev pub AppliedAs : OpenAnswer → List ℕ → Receiver → List ℕ → List ℕ → ApplyAnswer → List ℕ → List ℕ → Type 0
+AppliedAs (opening.Opened header) area receiver hold list answer hold′ list′ = ApplyOutcome header area receiver hold list answer hold′ list′
+AppliedAs (opening.Refused number) area receiver hold list answer hold′ list′ = (answer ≡ apply.Refused number) × (hold′ ≡ hold) × (list′ ≡ list)
+
+-- both meet their contracts, one after the other; the caller cuts the area to its 1,908 bytes
+abbrev pub Receives : ℕ → List ℕ → Receiver → List ℕ → BothCalls → Type 0
+Receives taps frame receiver hold both =
+    OpenOutcome taps frame (both .area) (both .opened) (both .area′)
+    × AppliedAs (both .opened) (take areaSize (both .area′)) receiver hold (both .list) (both .answer) (both .hold′) (both .list′)
+
+-- It is missing; or it comes as it was sent; or it comes damaged, as any other bytes, and is refused by the one call or the other.
 pub data Fate : Type 0 where
   missing : Fate
-  arrives : (list : List ℕ) (answer : ReceiveAnswer) (hold after : List ℕ) → Fate
-  damaged : (other list : List ℕ) (number : ℕ) (hold after : List ℕ) → Fate
+  arrives : (both : BothCalls) → Fate
+  damaged : (other : List ℕ) (number : ℕ) (both : BothCalls) → Fate
 
--- The frames come in the order in which they were sent, once each, and nothing else comes. Each call meets its contract, given the state and the hold that
--- the call before it left, and a list buffer of the listed size. Frames past the end of the fates have not come yet.
+-- The frames come in the order in which they were sent, once each, and nothing else comes. Each is received before the next, in the state and with the hold
+-- that the one before it left; one that comes as it was sent, with any buffers of the listed sizes for area and list. Frames past the end of the fates have
+-- not come yet.
 abbrev pub ReceiverCalls : ℕ → Receiver → List ℕ → List Fate → List (List ℕ) → Type 0
 ReceiverCalls taps receiver hold [] frames = Unit {0}
 ReceiverCalls taps receiver hold (fate ∷ fates) [] = ⊥
 ReceiverCalls taps receiver hold (missing ∷ fates) (frame ∷ frames) = ReceiverCalls taps receiver hold fates frames
-ReceiverCalls taps receiver hold (arrives list answer left after ∷ fates) (frame ∷ frames) =
-    (listSize ≤ length list) × ReceiveOutcome taps frame receiver hold list answer left after
-    × ReceiverCalls taps (receiverAfter receiver answer) left fates frames
-ReceiverCalls taps receiver hold (damaged other list number left after ∷ fates) (frame ∷ frames) =
-    ReceiveOutcome taps other receiver hold list (receive.Refused number) left after × ReceiverCalls taps receiver left fates frames
+ReceiverCalls taps receiver hold (arrives both ∷ fates) (frame ∷ frames) =
+    (areaSize ≤ length (both .area)) × (listSize ≤ length (both .list)) × Receives taps frame receiver hold both
+    × ReceiverCalls taps (receiverAfter receiver (both .answer)) (both .hold′) fates frames
+ReceiverCalls taps receiver hold (damaged other number both ∷ fates) (frame ∷ frames) =
+    Receives taps other receiver hold both × (both .answer ≡ apply.Refused number) × ReceiverCalls taps receiver (both .hold′) fates frames
 
 -- whether each frame was accepted: mark i is the mark of frame i
 abbrev pub markOf : Fate → Mark
 markOf missing = lost
-markOf (arrives list answer hold after) = accepted
-markOf (damaged other list number hold after) = lost
+markOf (arrives both) = accepted
+markOf (damaged other number both) = lost
 
 abbrev pub marks : List Fate → ℕ → Mark
 marks [] i = lost
@@ -117,15 +140,15 @@ abbrev pub readOut : ℕ → Option (List Packet) → Answer
 readOut missed none = refused 16
 readOut missed (some packets) = taken missed packets
 
-abbrev pub learnedFrom : ReceiveAnswer → List ℕ → Answer
-learnedFrom (receive.Received header missed packets listed receiver) list = readOut missed (packetsRead (take listed list))
-learnedFrom (receive.Refused number) list = refused number
+abbrev pub learnedFrom : ApplyAnswer → List ℕ → Answer
+learnedFrom (apply.Applied missed packets listed receiver) list = readOut missed (packetsRead (take listed list))
+learnedFrom (apply.Refused number) list = refused number
 
 abbrev pub learned : List Fate → List Answer
 learned [] = []
 learned (missing ∷ fates) = learned fates
-learned (arrives list answer hold after ∷ fates) = learnedFrom answer after ∷ learned fates
-learned (damaged other list number hold after ∷ fates) = learned fates
+learned (arrives both ∷ fates) = learnedFrom (both .answer) (both .list′) ∷ learned fates
+learned (damaged other number both ∷ fates) = learned fates
 
 -- ---------------------------------------------------------------- the demand
 

@@ -1,4 +1,4 @@
-// The far end: what arrives is received, and the packets that come out go to the recorder and the tuner.
+// The far end: what arrives is opened and applied, and the packets that come out go to the recorder and the tuner.
 ghost use Prim.Native.Nat.{_≤_};
 ghost use lib.ListN.{length};
 ghost use Rattle.basics.specs.Sizes.{frameSize};
@@ -13,8 +13,10 @@ use demo_report::totals;
 use demo_report::totals::Totals;
 use demo_scenario::beam;
 use demo_scenario::beam::Fate;
+use header::Header;
+use opening::OpenAnswer;
+use receiver::ApplyAnswer;
 use receiver::Receiver;
-use receiving::ReceiveAnswer;
 
 pub struct FarEnd {
     pub receiver: Receiver,
@@ -55,8 +57,9 @@ impl FarEnd {
         next
     }
 
-    // With a frame refused: the same.
-    fn with_refused(self, first: u16, end: u16) -> FarEnd {
+    // With a frame refused, by the one call or the other: its number is told, and the rest is the same.
+    fn with_refused(self, refusal: u8, first: u16, end: u16) -> FarEnd {
+        table::refused(refusal);
         let mut next = self;
         let totals = self.totals.with_refused();
         let broken = self.broken.with_all(first, end);
@@ -66,24 +69,20 @@ impl FarEnd {
     }
 
     // With the receiver's answer to a frame, whose packets stand in the list.
-    fn with_answer(self, answer: ReceiveAnswer, first: u16, end: u16, list: &[u8]) -> FarEnd {
+    fn with_answer(self, answer: ApplyAnswer, first: u16, end: u16, list: &[u8]) -> FarEnd {
         match answer {
-            ReceiveAnswer::Received {
+            ApplyAnswer::Applied {
                 missed,
                 packets,
                 listed,
                 receiver,
-                ..
             } => {
                 table::received(missed, packets);
                 let before = self.readers;
                 let readers = readers::read_out(before, demo_report::front(list, listed), packets);
                 self.with_received(receiver, readers, missed)
             }
-            ReceiveAnswer::Refused(refusal) => {
-                table::refused(refusal);
-                self.with_refused(first, end)
-            }
+            ApplyAnswer::Refused(refusal) => self.with_refused(refusal, first, end),
         }
     }
 
@@ -112,12 +111,28 @@ fn through_beam(count: u16, frame: &mut [u8]) -> usize
     }
 }
 
-// What the receiver makes of the bytes that arrive.
+// What the receiver makes of a frame that was opened.
+fn apply(
+    before: FarEnd,
+    header: Header,
+    first: u16,
+    end: u16,
+    area: &[u8],
+    hold: &mut [u8],
+    list: &mut [u8],
+) -> FarEnd {
+    let receiver = before.receiver;
+    let answer = receiver::apply(header, area, receiver, hold, list);
+    before.with_answer(answer, first, end, list)
+}
+
+// What the far end makes of the bytes that arrive.
 fn receive(
     before: FarEnd,
     first: u16,
     end: u16,
     arrived: &[u8],
+    area: &mut [u8],
     hold: &mut [u8],
     list: &mut [u8],
 ) -> FarEnd {
@@ -125,9 +140,10 @@ fn receive(
         table::lost();
         return before.with_lost(first, end);
     }
-    let receiver = before.receiver;
-    let answer = receiving::receive(TAPS, arrived, receiver, hold, list);
-    before.with_answer(answer, first, end, list)
+    match opening::open(TAPS, arrived, area) {
+        OpenAnswer::Refused(refusal) => before.with_refused(refusal, first, end),
+        OpenAnswer::Opened(header) => apply(before, header, first, end, area, hold, list),
+    }
 }
 
 // A frame that carries parts of the blocks from `first` up to the one before `end` goes through the beam, and what is left of it is received.
@@ -137,6 +153,7 @@ pub fn arrive(
     end: u16,
     count: u16,
     frame: &mut [u8],
+    area: &mut [u8],
     hold: &mut [u8],
     list: &mut [u8],
 ) -> FarEnd
@@ -148,6 +165,7 @@ pub fn arrive(
         first,
         end,
         demo_report::front(frame, length),
+        area,
         hold,
         list,
     )

@@ -28,6 +28,7 @@ fn print_head() {
 fn main() {
     let mut queue = [0u8; sizes::QUEUE_SIZE];
     let mut frame = [0u8; sizes::FRAME_SIZE];
+    let mut area = [0u8; sizes::AREA_SIZE];
     let mut hold = [0u8; sizes::HOLD_SIZE];
     let mut list = [0u8; sizes::LIST_SIZE];
     let mut near = NearEnd::fresh();
@@ -42,6 +43,7 @@ fn main() {
             sent.end,
             count,
             &mut frame,
+            &mut area,
             &mut hold,
             &mut list,
         );

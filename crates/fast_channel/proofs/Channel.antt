@@ -17,7 +17,7 @@ use Rattle.fast_channel.specs.declared.FastChannel.the-variants.{Version
 
 -- ---- from the message
 
-lock-back : (lock : Lock) → lockOf (lockNumber lock) ≡ lock
+pub lock-back : (lock : Lock) → lockOf (lockNumber lock) ≡ lock
 lock-back NotLocked = refl
 lock-back Locked = refl
 

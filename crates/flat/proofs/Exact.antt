@@ -1,5 +1,5 @@
--- Numbers that fit give a message that may be sent. So of all that C can give as a message, exactly what does not fit is refused (6; for the other
--- direction, `fields-misfit` in HeadersFit.antt).
+-- Numbers that fit give a message that may be sent. So of all that C can give as a message, exactly what does not fit is refused (6, by apply 11; for
+-- the other direction, `fields-misfit` in HeadersFit.antt).
 use mathlib.Core.Path.{_≡_, refl, sym, subst}
 use mathlib.Core.Bool.{Bool, true, false, _&&_}
 use Prim.Native.Nat.{ℕ, _+_, _%_, _≤_}

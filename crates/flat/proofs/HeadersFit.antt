@@ -1,4 +1,4 @@
--- What C gets wrong is refused and never mended: where a field stands for nothing, the fields do not fit (6).
+-- What C gets wrong is refused and never mended: where a field stands for nothing, the fields do not fit (6; 11 by apply).
 use mathlib.Core.Path.{_≡_}
 use mathlib.Core.Bool.{Bool, true, false, _&&_, and-false}
 use lib.Dec.{leb}
@@ -22,7 +22,7 @@ module _ (others : Bool) (flat : FlatFields) (misfit : (others && flagsFit flat 
 pub fields-misfit : (flat : FlatFields) → (flagsFit flat && numbersFit (flat .message)) ≡ false → fieldsFit (fieldsOf flat) ≡ false
 fields-misfit flat e = misfit-refused true flat e
 
--- and in a bare header; there a kind above 3 too
+-- and in a bare header or one given to apply; there a kind above 3 too
 pub header-misfit : (flat : FlatHeader) → (leb (flat .kind) 3 && flagsFit (flat .fields) && numbersFit (flat .fields .message)) ≡ false
     → headerFits (headerOf flat) ≡ false
 header-misfit flat e = rw (misfit-refused (leb (flat .kind) 3) (flat .fields) e, and-false)

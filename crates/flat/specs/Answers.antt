@@ -7,8 +7,10 @@ use Rattle.header_reading.specs.declared.ReadAnswer.{ReadAnswer}
 use Rattle.header_reading.specs.declared.ReadAnswer.the-variants as read
 use Rattle.list.specs.declared.EntryAnswer.{EntryAnswer}
 use Rattle.list.specs.declared.EntryAnswer.the-variants as entry
-use Rattle.receiving.specs.declared.ReceiveAnswer.{ReceiveAnswer}
-use Rattle.receiving.specs.declared.ReceiveAnswer.the-variants as receive
+use Rattle.opening.specs.declared.OpenAnswer.{OpenAnswer}
+use Rattle.opening.specs.declared.OpenAnswer.the-variants as opening
+use Rattle.receiver.specs.declared.ApplyAnswer.{ApplyAnswer}
+use Rattle.receiver.specs.declared.ApplyAnswer.the-variants as apply
 use Rattle.sender.specs.declared.PutAnswer.{PutAnswer}
 use Rattle.sender.specs.declared.PutAnswer.the-variants as put
 use Rattle.sender.specs.declared.WaitingAnswer.{WaitingAnswer}
@@ -22,7 +24,8 @@ use Rattle.flat.specs.declared.states.FlatSender.{FlatSender}
 use Rattle.flat.specs.declared.FlatPut.{FlatPut}
 use Rattle.flat.specs.declared.FlatWaiting.{FlatWaiting}
 use Rattle.flat.specs.declared.FlatNext.{FlatNext}
-use Rattle.flat.specs.declared.FlatReceive.{FlatReceive}
+use Rattle.flat.specs.declared.FlatOpen.{FlatOpen}
+use Rattle.flat.specs.declared.FlatApply.{FlatApply}
 use Rattle.flat.specs.declared.FlatCode.{FlatCode}
 use Rattle.flat.specs.declared.FlatRead.{FlatRead}
 use Rattle.flat.specs.declared.FlatEntry.{FlatEntry}
@@ -40,16 +43,19 @@ abbrev pub flatNext : FlatSender → NextAnswer → FlatNext
 flatNext given (next.Sent sender kind) = record { sender = flatSender sender; kind = kindNumber kind; refusal = 0 }
 flatNext given (next.Refused number) = record { sender = given; kind = 0; refusal = number }
 
-abbrev pub flatReceive : FlatReceiver → ReceiveAnswer → FlatReceive
-flatReceive given (receive.Received header missed packets listed receiver) = record {
-  header = flatHeader header;
+abbrev pub flatOpen : OpenAnswer → FlatOpen
+flatOpen (opening.Opened header) = record { header = flatHeader header; refusal = 0 }
+flatOpen (opening.Refused number) = record { header = noHeader; refusal = number }
+
+abbrev pub flatApply : FlatReceiver → ApplyAnswer → FlatApply
+flatApply given (apply.Applied missed packets listed receiver) = record {
   receiver = flatReceiver receiver;
   packets = packets;
   listed = listed;
   missed = missed;
   refusal = 0;
 }
-flatReceive given (receive.Refused number) = record { header = noHeader; receiver = given; packets = 0; listed = 0; missed = 0; refusal = number }
+flatApply given (apply.Refused number) = record { receiver = given; packets = 0; listed = 0; missed = 0; refusal = number }
 
 -- that a header was coded has no values beside the number
 abbrev pub flatCode : CodeAnswer → FlatCode

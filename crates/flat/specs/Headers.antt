@@ -1,5 +1,5 @@
 -- A header's fields as C has them: bools are 0 or 1, the kind is 0 to 3. What stands for no field is handed to the library as a message that it refuses
--- (6), so that the number which C gets is the library's, the lowest that applies.
+-- (6; 11 by apply), so that the number which C gets is the first of the library's own order.
 use mathlib.Core.Bool.{Bool, true, cond, _&&_}
 use lib.Dec.{eqb, leb}
 use Rattle.header.specs.Header.{flagBit, kindNumber}

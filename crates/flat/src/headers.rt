@@ -1,4 +1,4 @@
-// A header's fields: bools and the kind are numbers, and a number that stands for none is refused as a field to send (6).
+// A header's fields: bools and the kind are numbers, and a number that stands for none is refused as a field to send (6; 11 by apply).
 use crate::messages;
 use crate::messages::FlatMessage;
 use counts::Rxfn;

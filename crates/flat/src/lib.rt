@@ -9,14 +9,15 @@ use header::CodeAnswer;
 use header_reading::ReadAnswer;
 use headers::FlatHeader;
 use list::EntryAnswer;
-use receiving::ReceiveAnswer;
+use opening::OpenAnswer;
+use receiver::ApplyAnswer;
 use sender::PutAnswer;
 use sender::WaitingAnswer;
 use sending::NextAnswer;
 use states::FlatReceiver;
 use states::FlatSender;
 ghost use mathlib.Core.Path.{_≡_};
-ghost use Rattle.flat.specs.Answers.{flatPut, flatWaiting, flatNext, flatReceive, flatCode, flatRead, flatEntry, flatPacket};
+ghost use Rattle.flat.specs.Answers.{flatPut, flatWaiting, flatNext, flatOpen, flatApply, flatCode, flatRead, flatEntry, flatPacket};
 
 #[repr(C)]
 pub struct FlatPut {
@@ -39,8 +40,13 @@ pub struct FlatNext {
 }
 
 #[repr(C)]
-pub struct FlatReceive {
+pub struct FlatOpen {
     pub header: FlatHeader,
+    pub refusal: u8,
+}
+
+#[repr(C)]
+pub struct FlatApply {
     pub receiver: FlatReceiver,
     pub packets: usize,
     pub listed: usize,
@@ -124,26 +130,38 @@ pub fn flat_next(given: FlatSender, answer: NextAnswer) -> FlatNext
     }
 }
 
-pub fn flat_receive(given: FlatReceiver, answer: ReceiveAnswer) -> FlatReceive
-    ensures { λ r. ⌜ r ≡ flatReceive given answer ⌝ }
+pub fn flat_open(answer: OpenAnswer) -> FlatOpen
+    ensures { λ r. ⌜ r ≡ flatOpen answer ⌝ }
 {
     match answer {
-        ReceiveAnswer::Received {
-            header,
+        OpenAnswer::Opened(header) => FlatOpen {
+            header: headers::flat_header(header),
+            refusal: 0,
+        },
+        OpenAnswer::Refused(number) => FlatOpen {
+            header: headers::no_header(),
+            refusal: number,
+        },
+    }
+}
+
+pub fn flat_apply(given: FlatReceiver, answer: ApplyAnswer) -> FlatApply
+    ensures { λ r. ⌜ r ≡ flatApply given answer ⌝ }
+{
+    match answer {
+        ApplyAnswer::Applied {
             missed,
             packets,
             listed,
             receiver,
-        } => FlatReceive {
-            header: headers::flat_header(header),
+        } => FlatApply {
             receiver: states::flat_receiver(receiver),
             packets,
             listed,
             missed,
             refusal: 0,
         },
-        ReceiveAnswer::Refused(number) => FlatReceive {
-            header: headers::no_header(),
+        ApplyAnswer::Refused(number) => FlatApply {
             receiver: given,
             packets: 0,
             listed: 0,

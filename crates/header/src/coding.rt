@@ -1,4 +1,5 @@
-// A header as 16 bytes, and what may be sent in them. Frames are built with the same two functions, fields_fit and header_bytes.
+// A header as 16 bytes, and what may be sent in them. Frames are built with the same two functions, fields_fit and header_bytes, and what was opened is
+// judged by the first.
 ghost use mathlib.Core.Path.{_≡_};
 ghost use Prim.Native.Nat.{_/_, _%_, _≤_, _<_};
 ghost use Rattle.header.specs.Header.{flagBit, kindNumber, allOnes, flagsByte, secondsByte, channelByte, rxfnRule, fieldsFit, fieldBytes, headerBytes};
@@ -36,7 +37,7 @@ pub fn rxfn_rule(valid: bool, rxfn: u16) -> bool
     rxfn == 0
 }
 
-// No field to send is too large for its bits or against its rule (refusal 6).
+// No field is too large for its bits or against its rule (refusal 6; 11 of apply).
 pub fn fields_fit(fields: Fields) -> bool
     ensures { λ r. ⌜ r ≡ fieldsFit fields ⌝ }
 {

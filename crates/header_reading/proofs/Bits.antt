@@ -18,22 +18,22 @@ use Rattle.header.specs.declared.FrameKind.the-variants.{Idle, Data, Type2, Typ
 
 -- ---- from the flags and the type
 
-bit-back : (flag : Bool) → eqb (flagBit flag) 1 ≡ flag
+pub bit-back : (flag : Bool) → eqb (flagBit flag) 1 ≡ flag
 bit-back true = refl
 bit-back false = refl
 
-bit-le : (flag : Bool) → flagBit flag ≤ 1
+pub bit-le : (flag : Bool) → flagBit flag ≤ 1
 bit-le true = omega arith
 bit-le false = omega arith
 
-kind-back : (kind : FrameKind) → kindOf (kindNumber kind) ≡ kind
+pub kind-back : (kind : FrameKind) → kindOf (kindNumber kind) ≡ kind
 unfolding kindOf
 kind-back Idle = refl
 kind-back Data = refl
 kind-back Type2 = refl
 kind-back Type3 = refl
 
-kind-le : (kind : FrameKind) → kindNumber kind ≤ 3
+pub kind-le : (kind : FrameKind) → kindNumber kind ≤ 3
 kind-le Idle = omega arith
 kind-le Data = omega arith
 kind-le Type2 = omega arith

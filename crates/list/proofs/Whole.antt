@@ -1,4 +1,4 @@
--- Reading the whole list by `entry` and `packet` gives the packets that its bytes stand for: those that receive wrote, in order, and then the end.
+-- Reading the whole list by `entry` and `packet` gives the packets that its bytes stand for: those that apply wrote, in order, and then the end.
 use mathlib.Core.Path.{_≡_, refl, sym, ap, _∙_}
 use mathlib.Core.Bool.{Bool, true, false}
 use mathlib.Core.Logic.{⊎-elim}
@@ -62,6 +62,6 @@ pub packets-read : (list : List ℕ) → packetsRead list ≡ packetsIn list
 unfolding packetsRead
 packets-read list = from-position list (suc (length list)) 0 (omega arith) (omega arith)
 
--- The list that receive wrote is read as exactly its packets, and then the end.
+-- The list that apply wrote is read as exactly its packets, and then the end.
 pub list-read : (packets : List Packet) → ArePackets packets → packetsRead (layoutPackets packets) ≡ some packets
 list-read packets h = packets-read (layoutPackets packets) ∙ packets-back packets h

@@ -8,8 +8,9 @@ use Prim.Native.String.{String, [] as empty, _∷_ as _then_}
 use lib.Dec.{ltb}
 use Rattle.header.specs.declared.FrameKind.{FrameKind}
 use Rattle.header.specs.declared.FrameKind.the-variants.{Idle, Data, Type2, Type3}
-use Rattle.receiving.specs.declared.ReceiveAnswer.{ReceiveAnswer}
-use Rattle.receiving.specs.declared.ReceiveAnswer.the-variants.{Received, Refused}
+use Rattle.header.specs.declared.Header.{Header}
+use Rattle.receiver.specs.declared.ApplyAnswer.{ApplyAnswer}
+use Rattle.receiver.specs.declared.ApplyAnswer.the-variants.{Applied, Refused}
 
 -- ---------------------------------------------------------------- words
 
@@ -51,7 +52,7 @@ acceptedLine place txfn kind missed packets = line (decimal place) (decimal txfn
 unfoldable pub refusedLine : ℕ → ℕ → List ℕ
 refusedLine place number = line (decimal place) (ascii "refused" ∷ decimal number ∷ [])
 
--- the line of a frame, by the receiver's answer to it
-abbrev pub answerLine : ℕ → ReceiveAnswer → List ℕ
-answerLine place (Received header missed packets listed receiver) = acceptedLine place (header .txfn .0) (header .kind) missed packets
-answerLine place (Refused number) = refusedLine place number
+-- the line of a frame that was opened, by its header and by what applying it answers
+abbrev pub answerLine : ℕ → Header → ApplyAnswer → List ℕ
+answerLine place header (Applied missed packets listed receiver) = acceptedLine place (header .txfn .0) (header .kind) missed packets
+answerLine place header (Refused number) = refusedLine place number

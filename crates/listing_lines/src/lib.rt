@@ -1,13 +1,14 @@
 // The lines of a listing, as text (01, the listing program): written into lent bytes, which a program then prints.
 use header::FrameKind;
+use header::Header;
+use receiver::ApplyAnswer;
 use receiver::Receiver;
-use receiving::ReceiveAnswer;
 ghost use mathlib.Core.Path.{_≡_};
 ghost use mathlib.Core.List.{[], _∷_, _++_};
 ghost use Prim.Native.Nat.{_+_, _≤_};
 ghost use lib.ListN.{length};
 ghost use Rattle.lent.specs.Written.{written};
-ghost use Rattle.receiving.specs.Receiving.{receiverAfter};
+ghost use Rattle.receiver.specs.Applying.{receiverAfter};
 ghost use Rattle.listing_lines.specs.Lines.{decimal, kindWord, headLine, acceptedLine, refusedLine, answerLine};
 
 // What stands behind a word.
@@ -81,8 +82,8 @@ fn write_accepted(
     write_number(out, after_missed, packets as u64, NEWLINE)
 }
 
-// Writes the line of a refused frame, and gives its length.
-fn write_refused(out: &mut [u8], place: u64, number: u8) -> usize
+// Writes the line of a frame that is refused, by the one call or the other, and gives its length.
+pub fn write_refused(out: &mut [u8], place: u64, number: u8) -> usize
     requires { ⌜ 96 ≤ length (now out) ⌝ }
     ensures { λ r. ⌜ (r ≡ length (refusedLine place number)) × (r ≤ 96) ⌝ }
     ensures { λ _. ⌜ now (out .exit) ≡ written (now (out .entry)) 0 (refusedLine place number) ⌝ }
@@ -92,15 +93,14 @@ fn write_refused(out: &mut [u8], place: u64, number: u8) -> usize
     write_number(out, after_refused, number as u64, NEWLINE)
 }
 
-// Writes the line of a frame, by the receiver's answer to it, and gives its length.
-pub fn write_line(out: &mut [u8], place: u64, answer: ReceiveAnswer) -> usize
+// Writes the line of a frame that was opened, by its header and by what applying it answers, and gives its length.
+pub fn write_line(out: &mut [u8], place: u64, header: Header, answer: ApplyAnswer) -> usize
     requires { ⌜ 96 ≤ length (now out) ⌝ }
-    ensures { λ r. ⌜ (r ≡ length (answerLine place answer)) × (r ≤ 96) ⌝ }
-    ensures { λ _. ⌜ now (out .exit) ≡ written (now (out .entry)) 0 (answerLine place answer) ⌝ }
+    ensures { λ r. ⌜ (r ≡ length (answerLine place header answer)) × (r ≤ 96) ⌝ }
+    ensures { λ _. ⌜ now (out .exit) ≡ written (now (out .entry)) 0 (answerLine place header answer) ⌝ }
 {
     match answer {
-        ReceiveAnswer::Received {
-            header,
+        ApplyAnswer::Applied {
             missed,
             packets,
             ..
@@ -109,16 +109,16 @@ pub fn write_line(out: &mut [u8], place: u64, answer: ReceiveAnswer) -> usize
             let kind = header.kind;
             write_accepted(out, place, txfn.0, kind, missed, packets)
         }
-        ReceiveAnswer::Refused(number) => write_refused(out, place, number),
+        ApplyAnswer::Refused(number) => write_refused(out, place, number),
     }
 }
 
 // The receiver after a frame: a refusal leaves it as it was.
-pub fn receiver_after(before: Receiver, answer: ReceiveAnswer) -> Receiver
+pub fn receiver_after(before: Receiver, answer: ApplyAnswer) -> Receiver
     ensures { λ r. ⌜ r ≡ receiverAfter before answer ⌝ }
 {
     match answer {
-        ReceiveAnswer::Received { receiver, .. } => receiver,
-        ReceiveAnswer::Refused(_) => before,
+        ApplyAnswer::Applied { receiver, .. } => receiver,
+        ApplyAnswer::Refused(_) => before,
     }
 }

@@ -23,16 +23,16 @@ use Rattle.receiver.specs.declared.Receiver.{Receiver}
 use Rattle.receiver.specs.declared.ApplyAnswer.{ApplyAnswer}
 use Rattle.receiver.specs.declared.ApplyAnswer.the-variants.{Applied}
 use Rattle.receiver.specs.Applying.{receiverThen, isData, piecesOf, orNone, missedCount, heldPart, joined}
-use Rattle.receiver.specs.Applying.{buffersTable, areaTable, applyRefusal, ApplyOutcome}
-use Rattle.receiver.proofs.Tables.{BuffersPassed, buffers-passed, AreaPassed, area-passed, data-records, other-records}
+use Rattle.receiver.specs.Applying.{buffersTable, openedTable, applyRefusal, ApplyOutcome}
+use Rattle.receiver.proofs.Tables.{BuffersPassed, buffers-passed, AreaPassed, area-passed, data-records, other-records, opened-passed}
 
 -- ---- the two numbers that `apply` goes by
 
 -- a refusal with 2 or 3
 pub buffers-first : (header : Header) (area : List ℕ) (receiver : Receiver) (hold list : List ℕ) (n : ℕ)
-    → n ≡ firstOf (buffersTable 1908 area (receiver .held) hold list) → (n ≡ 0 → ⊥) → n ≡ applyRefusal header area receiver hold list
+    → n ≡ firstOf (buffersTable area (receiver .held) hold list) → (n ≡ 0 → ⊥) → n ≡ applyRefusal header area receiver hold list
 unfolding applyRefusal
-buffers-first header area receiver hold list n e ne = e ∙ sym (first-earlier (buffersTable 1908 area (receiver .held) hold list) _ (λ z. ne (e ∙ z)))
+buffers-first header area receiver hold list n e ne = e ∙ sym (first-earlier (buffersTable area (receiver .held) hold list) _ (λ z. ne (e ∙ z)))
 
 -- how much is still held, as the code counts it
 still-few : (held missed before : ℕ) → held ≡ cond (eqb missed 0) before 0 → held ≤ before
@@ -46,10 +46,10 @@ still-held held (suc missed) before hold e =
     ap (λ (k : ℕ). take k hold) none
 
 module _ (area : List ℕ) (receiver : Receiver) (hold list : List ℕ) (missed held : ℕ)
-    (pass : firstOf (buffersTable 1908 area (receiver .held) hold list) ≡ 0) (still : held ≡ cond (eqb missed 0) (receiver .held) 0) where
+    (pass : firstOf (buffersTable area (receiver .held) hold list) ≡ 0) (still : held ≡ cond (eqb missed 0) (receiver .held) 0) where
   pub held-inside : held ≤ length hold
   held-inside =
-      let p = buffers-passed 1908 area (receiver .held) hold list pass in
+      let p = buffers-passed area (receiver .held) hold list pass in
       omega (arith, p .long, p .most, still-few held missed (receiver .held) still)
 
   pub held-length : held ≡ length (take held hold)
@@ -57,30 +57,29 @@ module _ (area : List ℕ) (receiver : Receiver) (hold list : List ℕ) (missed 
 
 -- What is known where 2 and 3 do not apply: how many frames were missed, how much is still held, and the number of the frame's refusal.
 pub record Judged (header : Header) (area : List ℕ) (receiver : Receiver) (hold list : List ℕ) (missed held number : ℕ) : Type 0 where
-  pub passed : BuffersPassed 1908 area (receiver .held) hold list
+  pub passed : BuffersPassed area (receiver .held) hold list
   pub counted : missed ≡ missedCount header receiver
   pub few : held ≤ receiver .held
   pub part : take held hold ≡ heldPart header receiver hold
-  pub found : number ≡ firstOf (areaTable (take held hold) (piecesOf (header .kind) area))
+  pub found : number ≡ firstOf (openedTable header area (take held hold))
   pub refusal : number ≡ applyRefusal header area receiver hold list
 
 pub judged : (header : Header) (area : List ℕ) (receiver : Receiver) (hold list : List ℕ) {missed held number : ℕ}
-    → firstOf (buffersTable 1908 area (receiver .held) hold list) ≡ 0 → missed ≡ missedCount header receiver
-    → held ≡ cond (eqb missed 0) (receiver .held) 0 → number ≡ firstOf (areaTable (take held hold) (piecesOf (header .kind) area))
+    → firstOf (buffersTable area (receiver .held) hold list) ≡ 0 → missed ≡ missedCount header receiver
+    → held ≡ cond (eqb missed 0) (receiver .held) 0 → number ≡ firstOf (openedTable header area (take held hold))
     → Judged header area receiver hold list missed held number
 unfolding applyRefusal
 judged header area receiver hold list {missed} {held} {number} pass counted still found =
-    let buffers = buffersTable 1908 area (receiver .held) hold list in
-    let records = piecesOf (header .kind) area in
+    let buffers = buffersTable area (receiver .held) hold list in
     let part : take held hold ≡ heldPart header receiver hold =
     still-held held missed (receiver .held) hold still ∙ ap (λ (n : ℕ). heldAfter n (take (receiver .held) hold)) counted in
     record {
-      passed = buffers-passed 1908 area (receiver .held) hold list pass;
+      passed = buffers-passed area (receiver .held) hold list pass;
       counted = counted;
       few = still-few held missed (receiver .held) still;
       part = part;
       found = found;
-      refusal = found ∙ ap (λ (h : List ℕ). firstOf (areaTable h records)) part ∙ sym (first-later buffers _ refl pass);
+      refusal = found ∙ ap (λ (h : List ℕ). firstOf (openedTable header area h)) part ∙ sym (first-later buffers _ refl pass);
     }
 
 -- ---- from what joining did to the contract
@@ -94,7 +93,7 @@ applied-path header p q r s i = Applied (p i) (q i) (r i) (receiverThen (header 
 module _ {header : Header} {area : List ℕ} {receiver : Receiver} {hold list : List ℕ} {missed held number : ℕ}
     (k : Judged header area receiver hold list missed held number) (z : number ≡ 0) where
   area-is : AreaPassed (take held hold) (piecesOf (header .kind) area)
-  area-is = area-passed (take held hold) (piecesOf (header .kind) area) (sym (k .found) ∙ z)
+  area-is = area-passed (take held hold) (piecesOf (header .kind) area) (opened-passed header area (take held hold) (sym (k .found) ∙ z) .1)
 
   -- the pieces that stand in the area do what the contract says
   joined-so : (pieces : List Piece) → piecesOf (header .kind) area ≡ some pieces → onPieces (take held hold) pieces ≡ joined header area receiver hold

@@ -1,4 +1,4 @@
--- The answer of `apply` has the refusal's number, and what every accepted frame leaves, whoever sent it.
+-- The answer of `apply` has the refusal's number; what comes of a call, by that number; and what every accepted frame leaves, whoever sent it.
 use mathlib.Core.Path.{_≡_, refl, sym, ap, _∙_}
 use mathlib.Core.Bool.{Bool, true, false, cond}
 use mathlib.Core.Option.{some}
@@ -8,26 +8,81 @@ use native.Mathlib.Omega.{arith}
 use lib.ListN.{length, take, length-take}
 use Rattle.lent.specs.Refusals.{firstOf}
 use Rattle.lent.specs.Written.{written}
-use Rattle.lent.proofs.Refusals.{accepted, numbered, both-passed}
+use Rattle.lent.proofs.Refusals.{accepted, refused, kept, numbered, both-passed, first-later}
 use Rattle.lent.proofs.Written.{written-length}
 use Rattle.link.specs.Link.{ArePackets, Piece, Step, heldAfter}
 use Rattle.link.specs.Store.{layoutPackets}
 use Rattle.link.proofs.Hold.{held-bound, out-packets}
 use Rattle.packing.specs.Records.{read}
 use Rattle.joining.proofs.Laws.{AreaPieces, no-pieces, area-pieces, out-listed}
+use Rattle.header.specs.Header.{headerFits}
 use Rattle.header.specs.declared.FrameKind.{FrameKind}
 use Rattle.header.specs.declared.Header.{Header}
 use Rattle.receiver.specs.declared.Receiver.{Receiver}
 use Rattle.receiver.specs.declared.ApplyAnswer.{ApplyAnswer}
 use Rattle.receiver.specs.declared.ApplyAnswer.the-variants.{Applied, Refused}
 use Rattle.receiver.specs.Applying.{receiverThen, isData, piecesOf, missedCount, heldPart, joined}
-use Rattle.receiver.specs.Applying.{buffersTable, areaTable, applyRefusal, ApplyOutcome, applyNumber}
-use Rattle.receiver.proofs.Tables.{buffers-passed, area-passed}
+use Rattle.receiver.specs.Applying.{buffersTable, areaTable, openedTable, applyRefusal, ApplyOutcome, applyNumber}
+use Rattle.receiver.proofs.Tables.{BuffersPassed, buffers-passed, buffers-pass, area-passed, opened-passed, opened-by-area}
 
 -- the answer's number is the refusal's
 pub apply-numbers : {header : Header} {area : List ℕ} {receiver : Receiver} {hold list : List ℕ} {r : ApplyAnswer} {hold′ list′ : List ℕ}
     → ApplyOutcome header area receiver hold list r hold′ list′ → applyNumber r ≡ applyRefusal header area receiver hold list
 apply-numbers x = ap applyNumber (x .answer) ∙ numbered applyNumber _ (λ n. Refused n) refl (λ n. refl) _
+
+-- ---- what comes of a call, by its number
+
+module _ {header : Header} {area : List ℕ} {receiver : Receiver} {hold list : List ℕ} {r : ApplyAnswer} {hold′ list′ : List ℕ}
+    (x : ApplyOutcome header area receiver hold list r hold′ list′) where
+  abbrev number : ℕ
+  number = applyRefusal header area receiver hold list
+
+  abbrev step : Step
+  step = joined header area receiver hold
+
+  module _ (z : number ≡ 0) where
+    pub accepted-answer : r ≡ Applied (missedCount header receiver) (length (step .out)) (length (layoutPackets (step .out)))
+        (receiverThen (header .txfn) (length (step .held)))
+    accepted-answer = x .answer ∙ sym (accepted number number _ _ _ refl z refl)
+
+    pub accepted-hold : hold′ ≡ written hold 0 (step .held)
+    accepted-hold = x .held ∙ sym (accepted number number _ _ _ refl z refl)
+
+    pub accepted-list : list′ ≡ written list 0 (layoutPackets (step .out))
+    accepted-list = x .listed ∙ sym (accepted number number _ _ _ refl z refl)
+
+  module _ (ne : number ≡ 0 → ⊥) where
+    pub refused-answer : r ≡ Refused number
+    refused-answer = x .answer ∙ sym (refused number number _ (λ n. Refused n) refl ne)
+
+    pub refused-hold : hold′ ≡ hold
+    refused-hold = x .held ∙ sym (kept number number _ hold refl ne)
+
+-- ---- a frame that is accepted: none of the rows applies
+
+module _ (header : Header) (area : List ℕ) (receiver : Receiver) (hold list : List ℕ) where
+  pub record ApplyPassed : Type 0 where
+    pub buffers : BuffersPassed area (receiver .held) hold list
+    pub fits : headerFits header ≡ true
+    pub read : firstOf (areaTable (heldPart header receiver hold) (piecesOf (header .kind) area)) ≡ 0
+
+  pub apply-passed : applyRefusal header area receiver hold list ≡ 0 → ApplyPassed
+  unfolding applyRefusal
+  apply-passed z =
+      let first = both-passed (buffersTable area (receiver .held) hold list) _ refl z in
+      let second = opened-passed header area (heldPart header receiver hold) (first .1) in
+      record { buffers = buffers-passed area (receiver .held) hold list (first .0); fits = second .0; read = second .1 }
+
+  -- where 2 and 3 do not apply the opened frame decides
+  pub by-opened : BuffersPassed area (receiver .held) hold list
+      → applyRefusal header area receiver hold list ≡ firstOf (openedTable header area (heldPart header receiver hold))
+  unfolding applyRefusal
+  by-opened p =
+      first-later (buffersTable area (receiver .held) hold list) (openedTable header area (heldPart header receiver hold)) refl
+      (buffers-pass area (receiver .held) hold list p)
+
+  pub apply-pass : ApplyPassed → applyRefusal header area receiver hold list ≡ 0
+  apply-pass p = by-opened (p .buffers) ∙ opened-by-area header area (heldPart header receiver hold) (p .fits) ∙ p .read
 
 -- ---- what an accepted frame leaves
 
@@ -64,34 +119,26 @@ joined-well header area receiver hold h z =
       held = held-bound part (a .pieces) few (are .shape) (a .fitting);
     })
 
--- at most 8,999 bytes are held afterwards, and the hold is as long as before: 3 is never given to a state of the receiver's own
-pub record Own (after : Receiver) (hold′ : List ℕ) : Type 0 where
+-- Whatever frame was accepted: what it completed are packets, its list is short enough, at most 8,999 bytes are held afterwards, and the hold is as long as
+-- before. So 3 is never given to a state of the receiver's own.
+pub record ApplyLeaves (header : Header) (area : List ℕ) (receiver : Receiver) (hold : List ℕ) (after : Receiver) (hold′ : List ℕ) : Type 0 where
+  pub well : JoinedWell (joined header area receiver hold)
   pub most : after .held ≤ 8999
   pub long : length hold′ ≡ 9000
 
--- the law of `apply` and of `receive`: both leave the part that was joined
-pub leaves-own : (header : Header) (area : List ℕ) (receiver : Receiver) (hold : List ℕ) {hold′ : List ℕ} {after : Receiver}
-    → receiver .held ≤ 8999 → length hold ≡ 9000
-    → firstOf (areaTable (heldPart header receiver hold) (piecesOf (header .kind) area)) ≡ 0
-    → after ≡ receiverThen (header .txfn) (length (joined header area receiver hold .held)) → hold′ ≡ written hold 0 (joined header area receiver hold .held)
-    → Own after hold′
-leaves-own header area receiver hold most long z same left =
-    let well = joined-well header area receiver hold most z in
-    let part = joined header area receiver hold .held in
-    record {
-      most = rw same (well .held);
-      long = ap length left ∙ written-length hold 0 part (omega (arith, well .held)) ∙ long;
-    }
-
 pub apply-own : (header : Header) (area : List ℕ) (receiver : Receiver) (hold list : List ℕ)
     (missed packets listed : ℕ) (after : Receiver) (hold′ list′ : List ℕ)
-    → ApplyOutcome header area receiver hold list (Applied missed packets listed after) hold′ list′ → Own after hold′
-unfolding applyRefusal
+    → ApplyOutcome header area receiver hold list (Applied missed packets listed after) hold′ list′
+    → ApplyLeaves header area receiver hold after hold′
 apply-own header area receiver hold list missed packets listed after hold′ list′ x =
-    let n = applyRefusal header area receiver hold list in
-    let z : n ≡ 0 = sym (apply-numbers x) in
-    let passed = both-passed (buffersTable 1908 area (receiver .held) hold list) _ refl z in
-    let p = buffers-passed 1908 area (receiver .held) hold list (passed .0) in
-    let answered = x .answer ∙ sym (accepted n n _ _ _ refl z refl) in
-    let same : after ≡ receiverThen (header .txfn) (length (joined header area receiver hold .held)) = cc in
-    leaves-own header area receiver hold (p .most) (p .long) (passed .1) same (x .held ∙ sym (accepted n n _ _ _ refl z refl))
+    let z : applyRefusal header area receiver hold list ≡ 0 = sym (apply-numbers x) in
+    let p = apply-passed header area receiver hold list z in
+    let well = joined-well header area receiver hold (p .buffers .most) (p .read) in
+    let part = joined header area receiver hold .held in
+    let answered = accepted-answer x z in
+    let same : after ≡ receiverThen (header .txfn) (length part) = cc in
+    record {
+      well = well;
+      most = rw same (well .held);
+      long = ap length (accepted-hold x z) ∙ written-length hold 0 part (omega (arith, well .held, p .buffers .long)) ∙ p .buffers .long;
+    }

@@ -1,4 +1,4 @@
--- The rows 2 and 3, and 14 and 15: what is known where none of them applies, and their number by what was read of the area.
+-- The rows 2 and 3, and 11, 14 and 15: what is known where none of them applies, and the number of 14 and 15 by what was read of the area.
 use mathlib.Core.Path.{_≡_, refl, sym, ap, _∙_}
 use mathlib.Core.Bool.{Bool, true, false, not, cond, _&&_, false≢true}
 use mathlib.Core.Option.{Option, none, some}
@@ -15,37 +15,39 @@ use Rattle.lent.proofs.Refusals.{row-passed, unless-passed}
 use Rattle.link.specs.Link.{Piece, fits}
 use Rattle.basics.specs.Lists.{isSome}
 use Rattle.packing.specs.Records.{read}
+use Rattle.header.specs.Header.{headerFits}
 use Rattle.header.specs.declared.FrameKind.{FrameKind}
-use Rattle.receiver.specs.Applying.{isData, piecesOf, buffersTable, areaTable}
+use Rattle.header.specs.declared.Header.{Header}
+use Rattle.receiver.specs.Applying.{isData, piecesOf, buffersTable, areaTable, openedTable}
 
 -- ---- 2 and 3
 
-pub record BuffersPassed (size : ℕ) (bytes : List ℕ) (held : ℕ) (hold list : List ℕ) : Type 0 where
-  pub sized : length bytes ≡ size
+pub record BuffersPassed (area : List ℕ) (held : ℕ) (hold list : List ℕ) : Type 0 where
+  pub sized : length area ≡ 1908
   pub long : length hold ≡ 9000
   pub room : 10907 ≤ length list
   pub most : held ≤ 8999
 
-module _ (size : ℕ) (bytes : List ℕ) (held : ℕ) (hold list : List ℕ) where
-  pub buffers-passed : firstOf (buffersTable size bytes held hold list) ≡ 0 → BuffersPassed size bytes held hold list
+module _ (area : List ℕ) (held : ℕ) (hold list : List ℕ) where
+  pub buffers-passed : firstOf (buffersTable area held hold list) ≡ 0 → BuffersPassed area held hold list
   buffers-passed e =
-      let sized = eqb (length bytes) size in
+      let sized = eqb (length area) 1908 in
       let long = eqb (length hold) 9000 in
       let room = leb 10907 (length list) in
       let sizes = unless-passed 2 (sized && long && room) _ (omega arith) e in
       let most = row-passed (3 when above held 8999) [] (omega arith) (sizes .1) in
       let two = left-true (sized && long) room (sizes .0) in
       record {
-        sized = eqb-true (length bytes) size (left-true sized long two);
+        sized = eqb-true (length area) 1908 (left-true sized long two);
         long = eqb-true (length hold) 9000 (right-true sized long two);
         room = leb-true 10907 (length list) (right-true (sized && long) room (sizes .0));
         most = ltb-false 8999 held (most .0);
       }
 
-  pub buffers-pass : BuffersPassed size bytes held hold list → firstOf (buffersTable size bytes held hold list) ≡ 0
+  pub buffers-pass : BuffersPassed area held hold list → firstOf (buffersTable area held hold list) ≡ 0
   unfolding firstOf
   buffers-pass p = rw (
-    eq-eqb (length bytes) size (p .sized),
+    eq-eqb (length area) 1908 (p .sized),
     eq-eqb (length hold) 9000 (p .long),
     le-leb 10907 (length list) (p .room),
     le-ltb 8999 held (p .most),
@@ -96,3 +98,15 @@ module _ (kind : FrameKind) (area held : List ℕ) where
         go : (records : Option (List Piece)) → read area ≡ records → isSome records ≡ true → cond fit 0 15 ≡ firstOf (areaTable held records)
         go none are e = absurd (false≢true e)
         go (some pieces) are e = ap (λ (test : Bool). cond test 0 15) (fitting pieces are) ∙ sym (read-as held pieces)
+
+-- ---- 11, before them
+
+module _ (header : Header) (area held : List ℕ) where
+  pub opened-passed : firstOf (openedTable header area held) ≡ 0
+      → (headerFits header ≡ true) × (firstOf (areaTable held (piecesOf (header .kind) area)) ≡ 0)
+  opened-passed e = unless-passed 11 (headerFits header) _ (omega arith) e
+
+  -- where it does not apply the area decides
+  pub opened-by-area : headerFits header ≡ true → firstOf (openedTable header area held) ≡ firstOf (areaTable held (piecesOf (header .kind) area))
+  unfolding firstOf
+  opened-by-area fit = rw fit

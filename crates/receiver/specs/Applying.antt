@@ -1,5 +1,5 @@
--- Receiving an opened frame (01, "Receiving"), for all inputs: what was missed and what is still held, the records of the area and what they do, the refusals,
--- and what is written back. What one record does is `onPiece`, and what 15 asks is `fits`, both in crates/link/specs/Link.antt.
+-- Applying an opened frame (01, "Receiving"; 02, M-106), for all inputs: what was missed and what is still held, the records of the area and what they do, the
+-- refusals, and what is written back. What one record does is `onPiece`, and what 15 asks is `fits`, both in crates/link/specs/Link.antt.
 use mathlib.Core.Path.{_≡_}
 use mathlib.Core.Bool.{Bool, true, false, cond, _&&_}
 use mathlib.Core.Option.{Option, none, some}
@@ -12,6 +12,7 @@ use Rattle.basics.specs.Numbers.{above}
 use Rattle.basics.specs.Counts.{nextTxfn}
 use Rattle.lent.specs.Refusals.{Row, _when_, _unless_, firstOf, by, answerBy}
 use Rattle.lent.specs.Written.{written}
+use Rattle.header.specs.Header.{headerFits}
 use Rattle.header.specs.declared.FrameKind.{FrameKind}
 use Rattle.header.specs.declared.FrameKind.the-variants.{Idle, Data, Type2, Type3}
 use Rattle.header.specs.declared.Header.{Header}
@@ -58,14 +59,14 @@ orNone (some pieces) = pieces
 
 -- ---------------------------------------------------------------- refusals and answers
 
--- the area (or the frame) is of its size, the hold of 9,000 bytes, and the list of 10,907 or more
-abbrev pub areSized : ℕ → List ℕ → List ℕ → List ℕ → Bool
-areSized size bytes hold list = eqb (length bytes) size && eqb (length hold) holdSize && leb listSize (length list)
+-- the area is of 1,908 bytes, the hold of 9,000, and the list of 10,907 or more
+abbrev pub areSized : List ℕ → List ℕ → List ℕ → Bool
+areSized area hold list = eqb (length area) areaSize && eqb (length hold) holdSize && leb listSize (length list)
 
 -- 2: what is lent is not of its size. 3: the held length is above 8,999.
-abbrev pub buffersTable : ℕ → List ℕ → ℕ → List ℕ → List ℕ → List Row
-buffersTable size bytes held hold list =
-    2 unless areSized size bytes hold list
+abbrev pub buffersTable : List ℕ → ℕ → List ℕ → List ℕ → List Row
+buffersTable area held hold list =
+    2 unless areSized area hold list
     ∷ 3 when above held mostHeld
     ∷ []
 
@@ -75,6 +76,10 @@ areaTable held records =
     14 unless isSome records
     ∷ 15 unless fits held (orNone records)
     ∷ []
+
+-- 11: a header that no opening gives, of any type: coding would refuse it with 6. The others: of the area.
+abbrev pub openedTable : Header → List ℕ → List ℕ → List Row
+openedTable header area held = 11 unless headerFits header ∷ areaTable held (piecesOf (header .kind) area)
 
 -- the paper's number for each case of the answer (01, last section)
 abbrev pub applyNumber : ApplyAnswer → ℕ
@@ -102,7 +107,7 @@ module _ (header : Header) (area : List ℕ) (receiver : Receiver) (hold : List 
 
   module _ (list : List ℕ) where
     abbrev pub applyTable : List Row
-    applyTable = buffersTable areaSize area (receiver .held) hold list ++ areaTable (heldPart header receiver hold) (piecesOf (header .kind) area)
+    applyTable = buffersTable area (receiver .held) hold list ++ openedTable header area (heldPart header receiver hold)
 
     unfoldable pub applyRefusal : ℕ
     applyRefusal = firstOf applyTable
@@ -114,3 +119,8 @@ module _ (header : Header) (area : List ℕ) (receiver : Receiver) (hold : List 
           (Applied (missedCount header receiver) (length (joined .out)) (length listThen) (receiverThen (header .txfn) (length (joined .held)))) Refused
       pub held : hold′ ≡ by applyRefusal (written hold 0 (joined .held)) hold
       pub listed : list′ ≡ by applyRefusal (written list 0 listThen) list
+
+-- the receiver after an answer: a refusal leaves it as it was
+abbrev pub receiverAfter : Receiver → ApplyAnswer → Receiver
+receiverAfter before (Applied missed packets listed receiver) = receiver
+receiverAfter before (Refused number) = before

@@ -3,6 +3,7 @@ use basics::sizes;
 use counts::Txfn;
 use header::FrameKind;
 use header::Header;
+use header::coding;
 use joining::fitting;
 use joining::growing::Joined;
 ghost use mathlib.Core.Path.{_≡_};
@@ -12,7 +13,7 @@ ghost use Rattle.lent.specs.Refusals.{firstOf};
 ghost use Rattle.link.specs.Link.{missed};
 ghost use Rattle.receiver.specs.declared.ApplyAnswer.the-variants.{Applied};
 ghost use Rattle.receiver.specs.Applying.{freshReceiver, expectedNumber, receiverThen, isData, piecesOf, areSized};
-ghost use Rattle.receiver.specs.Applying.{buffersTable, areaTable, ApplyOutcome};
+ghost use Rattle.receiver.specs.Applying.{buffersTable, areaTable, openedTable, ApplyOutcome};
 
 // The number that the next frame should have; none before the first frame.
 pub enum Expected {
@@ -76,11 +77,11 @@ fn is_data(kind: FrameKind) -> bool
     }
 }
 
-// Whether the lent bytes have their sizes, and those of the area or of the frame this one (2 where not).
-fn are_sized(size: usize, bytes: &[u8], hold: &[u8], list: &[u8]) -> bool
-    ensures { λ r. ⌜ r ≡ areSized size (now (bytes .entry)) (now (hold .entry)) (now (list .entry)) ⌝ }
+// Whether area, hold and list have their sizes (2 where not).
+fn are_sized(area: &[u8], hold: &[u8], list: &[u8]) -> bool
+    ensures { λ r. ⌜ r ≡ areSized (now (area .entry)) (now (hold .entry)) (now (list .entry)) ⌝ }
 {
-    if bytes.len() != size {
+    if area.len() != sizes::AREA_SIZE {
         return false;
     }
     if hold.len() != sizes::HOLD_SIZE {
@@ -89,11 +90,11 @@ fn are_sized(size: usize, bytes: &[u8], hold: &[u8], list: &[u8]) -> bool
     sizes::LIST_SIZE <= list.len()
 }
 
-// 2 and 3, for bytes that are to be of this size; 0 for neither.
-pub fn buffers_refusal(size: usize, bytes: &[u8], held: usize, hold: &[u8], list: &[u8]) -> u8
-    ensures { λ r. ⌜ r ≡ firstOf (buffersTable size (now (bytes .entry)) held (now (hold .entry)) (now (list .entry))) ⌝ }
+// 2 and 3; 0 for neither.
+fn buffers_refusal(area: &[u8], held: usize, hold: &[u8], list: &[u8]) -> u8
+    ensures { λ r. ⌜ r ≡ firstOf (buffersTable (now (area .entry)) held (now (hold .entry)) (now (list .entry))) ⌝ }
 {
-    let sized = are_sized(size, bytes, hold, list);
+    let sized = are_sized(area, hold, list);
     if !sized {
         return 2;
     }
@@ -116,6 +117,17 @@ fn area_refusal(kind: FrameKind, area: &[u8], held: &[u8]) -> u8
     15
 }
 
+// 11, 14 and 15; 0 for none. The area's number counts only where the header fits; both are found first, so that an edit can exchange them.
+fn opened_refusal(header: Header, area: &[u8], held: &[u8]) -> u8
+    ensures { λ r. ⌜ r ≡ firstOf (openedTable header (now (area .entry)) (now (held .entry))) ⌝ }
+{
+    let kind = header.kind;
+    let fields = header.fields;
+    let fits = coding::fields_fit(fields);
+    let number = area_refusal(kind, area, held);
+    if fits { number } else { 11 }
+}
+
 // The answer to a frame that is not refused: the number after its own is expected.
 fn applied(missed: u16, txfn: Txfn, joined: Joined) -> ApplyAnswer
     ensures { λ r. ⌜ r ≡ Applied missed (joined .packets) (joined .listed) (receiverThen txfn (joined .held)) ⌝ }
@@ -132,7 +144,7 @@ fn applied(missed: u16, txfn: Txfn, joined: Joined) -> ApplyAnswer
     }
 }
 
-// Applies an opened frame: its packets go to the front of the list, and what is then held stands at the front of the hold. Refusals: 2, 3, 14, 15.
+// Applies an opened frame: its packets go to the front of the list, and what is then held stands at the front of the hold. Refusals: 2, 3, 11, 14, 15.
 pub fn apply(
     header: Header,
     area: &[u8],
@@ -142,7 +154,7 @@ pub fn apply(
 ) -> ApplyAnswer
     ensures { λ r. ⌜ ApplyOutcome header (now (area .entry)) receiver (now (hold .entry)) (now (list .entry)) r (now (hold .exit)) (now (list .exit)) ⌝ }
 {
-    let buffers = buffers_refusal(sizes::AREA_SIZE, area, receiver.held, hold, list);
+    let buffers = buffers_refusal(area, receiver.held, hold, list);
     if buffers != 0 {
         return ApplyAnswer::Refused(buffers);
     }
@@ -151,7 +163,7 @@ pub fn apply(
     let expected = receiver.expected;
     let missed = missed_before(expected, txfn);
     let held = held_after(missed, receiver.held);
-    let number = area_refusal(kind, area, &hold[..held]);
+    let number = opened_refusal(header, area, &hold[..held]);
     if number != 0 {
         return ApplyAnswer::Refused(number);
     }

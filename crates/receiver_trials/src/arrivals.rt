@@ -1,4 +1,4 @@
-// The kinds of record that try receive and apply.
+// The kinds of record that try open and apply, one after the other on a frame, and apply alone.
 ghost use Prim.Native.Nat.{_≤_};
 ghost use lib.ListN.{length};
 use crate::buffers;
@@ -6,18 +6,42 @@ use crate::states;
 use basics::sizes;
 use header::Header;
 use header_trials::fields;
+use opening::OpenAnswer;
 use outcome::Outcome;
 use receiver::Receiver;
 use vectors::lent_bytes;
 use vectors::lent_bytes::Lent;
 use vectors::numbers;
 
-// The call that is made, with what it has beside bytes, state, hold and list: taps to receive a frame, a header to apply an area.
+// What is called, with what it has beside bytes, state, hold and list: taps to open a frame and apply it, a header to apply an area.
 enum Call {
-    Receive(u32),
+    OpenAndApply(u32),
     Apply(Header),
 }
 
+// A frame is opened into bytes that are lent for its area, and the first 1,908 of them are applied. After a refusal nothing is applied.
+fn opened_and_applied(
+    taps: u32,
+    frame: &[u8],
+    receiver: Receiver,
+    hold: &mut [u8],
+    list: &mut [u8],
+) -> [u8; 54] {
+    let mut area = lent_bytes::kept();
+    let opened = opening::open(taps, frame, &mut area);
+    match opened {
+        OpenAnswer::Opened(header) => {
+            states::answer(
+                &fields::accepted(header),
+                receiver::apply(header, &area[0..sizes::AREA_SIZE], receiver, hold, list),
+                receiver,
+            )
+        }
+        OpenAnswer::Refused(number) => states::refused(number, receiver),
+    }
+}
+
+// An area has no fields in its answer: its header is given.
 fn answer_of(
     call: Call,
     bytes: &[u8],
@@ -26,14 +50,10 @@ fn answer_of(
     list: &mut [u8],
 ) -> [u8; 54] {
     match call {
-        Call::Receive(taps) => {
-            states::receive_answer(
-                receiving::receive(taps, bytes, receiver, hold, list),
-                receiver,
-            )
-        }
+        Call::OpenAndApply(taps) => opened_and_applied(taps, bytes, receiver, hold, list),
         Call::Apply(header) => {
-            states::apply_answer(
+            states::answer(
+                &fields::refused(0),
                 receiver::apply(header, bytes, receiver, hold, list),
                 receiver,
             )
@@ -52,7 +72,7 @@ fn outcome_of(answer: &[u8; 54], hold: &[u8], list: &[u8], expected: &[u8]) -> O
     )
 }
 
-// A call with some bytes, of a frame or an area. The rest of its record: the state, the lengths of the bytes, of hold and list, and what is expected.
+// What is called, with the bytes of a frame or an area. The rest of its record: the state, the lengths of the bytes, of hold and list, and what is expected.
 fn called(call: Call, bytes: &[u8], rest: &[u8], hold: &mut [u8], list: &mut [u8]) -> Outcome
     requires { ⌜ 17 ≤ length (now rest) ⌝ }
 {
@@ -75,7 +95,7 @@ fn called(call: Call, bytes: &[u8], rest: &[u8], hold: &mut [u8], list: &mut [u8
 }
 
 // Taps, the state, the lengths of frame, hold and list; the answer, the digests of hold and list; changes to the frame at hand, which then arrives.
-pub fn received(body: &[u8], at_hand: &Lent, hold: &mut [u8], list: &mut [u8]) -> Outcome {
+pub fn arrived(body: &[u8], at_hand: &Lent, hold: &mut [u8], list: &mut [u8]) -> Outcome {
     if body.len() < 91 {
         return Outcome::Malformed;
     }
@@ -83,7 +103,7 @@ pub fn received(body: &[u8], at_hand: &Lent, hold: &mut [u8], list: &mut [u8]) -
     if 2100 < length {
         return Outcome::Malformed;
     }
-    let call = Call::Receive(numbers::four_at(body, 0));
+    let call = Call::OpenAndApply(numbers::four_at(body, 0));
     let frame = lent_bytes::changed(at_hand, &body[91..]);
     called(call, &frame[0..length], &body[4..91], hold, list)
 }

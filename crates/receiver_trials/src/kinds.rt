@@ -9,7 +9,7 @@ use vectors::lent_bytes::Lent;
 pub fn outcome(kind: u8, body: &[u8], at_hand: &Lent, hold: &mut [u8], list: &mut [u8]) -> Outcome {
     match kind {
         21 => buffers::begun(body, hold, list),
-        22 => arrivals::received(body, at_hand, hold, list),
+        22 => arrivals::arrived(body, at_hand, hold, list),
         23 => lent_bytes::change_outcome(body, list),
         24 => entries::read(body, list),
         25 => buffers::front_in_full(body, list),

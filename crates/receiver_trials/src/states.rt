@@ -7,7 +7,6 @@ use header_trials::fields;
 use receiver::ApplyAnswer;
 use receiver::Expected;
 use receiver::Receiver;
-use receiving::ReceiveAnswer;
 use vectors::numbers;
 
 fn expected_of(is_expected: u8, number: u16) -> Expected {
@@ -60,33 +59,19 @@ fn joined(
 }
 
 // A refusal's number, and the state that was given, which it leaves.
-fn refused(number: u8, given: Receiver) -> [u8; 54] {
+pub fn refused(number: u8, given: Receiver) -> [u8; 54] {
     joined(&fields::refused(number), 0, 0, 0, given)
 }
 
-// What receive answers: the refusal's number and no fields, or 0 and every field of the header; and the numbers.
-pub fn receive_answer(found: ReceiveAnswer, given: Receiver) -> [u8; 54] {
-    match found {
-        ReceiveAnswer::Received {
-            header,
-            missed,
-            packets,
-            listed,
-            receiver,
-        } => joined(&fields::accepted(header), missed, packets, listed, receiver),
-        ReceiveAnswer::Refused(number) => refused(number, given),
-    }
-}
-
-// What apply answers: the same, but it has no header, and no fields.
-pub fn apply_answer(found: ApplyAnswer, given: Receiver) -> [u8; 54] {
+// What apply answers: its numbers behind this head, or its refusal.
+pub fn answer(head: &[u8; 25], found: ApplyAnswer, given: Receiver) -> [u8; 54] {
     match found {
         ApplyAnswer::Applied {
             missed,
             packets,
             listed,
             receiver,
-        } => joined(&fields::refused(0), missed, packets, listed, receiver),
+        } => joined(head, missed, packets, listed, receiver),
         ApplyAnswer::Refused(number) => refused(number, given),
     }
 }

@@ -9,21 +9,23 @@ use Rattle.header.specs.declared.CodeAnswer.{CodeAnswer}
 use Rattle.header_reading.specs.Reading.{readHeader}
 use Rattle.fast_channel.specs.Level.{levelOf}
 use Rattle.list.specs.Entries.{entryAnswer}
-use Rattle.receiver.specs.Applying.{freshReceiver}
-use Rattle.receiving.specs.Receiving.{ReceiveOutcome}
-use Rattle.receiving.specs.declared.ReceiveAnswer.{ReceiveAnswer}
+use Rattle.opening.specs.Opening.{OpenOutcome}
+use Rattle.opening.specs.declared.OpenAnswer.{OpenAnswer}
+use Rattle.receiver.specs.Applying.{freshReceiver, ApplyOutcome}
+use Rattle.receiver.specs.declared.ApplyAnswer.{ApplyAnswer}
 use Rattle.sender.specs.Put.{freshSender, PutOutcome}
 use Rattle.sender.specs.Waiting.{waitingAnswer}
 use Rattle.sending.specs.Next.{NextOutcome}
 use Rattle.sender.specs.declared.PutAnswer.{PutAnswer}
 use Rattle.sending.specs.declared.NextAnswer.{NextAnswer}
-use Rattle.flat.specs.Answers.{flatPut, flatWaiting, flatNext, flatReceive, flatCode, flatRead, flatEntry, flatPacket}
+use Rattle.flat.specs.Answers.{flatPut, flatWaiting, flatNext, flatOpen, flatApply, flatCode, flatRead, flatEntry, flatPacket}
 use Rattle.flat.specs.Headers.{fieldsOf, headerOf}
 use Rattle.flat.specs.States.{senderOf, flatSender, receiverOf, flatReceiver}
 use Rattle.flat.specs.declared.FlatPut.{FlatPut}
 use Rattle.flat.specs.declared.FlatWaiting.{FlatWaiting}
 use Rattle.flat.specs.declared.FlatNext.{FlatNext}
-use Rattle.flat.specs.declared.FlatReceive.{FlatReceive}
+use Rattle.flat.specs.declared.FlatOpen.{FlatOpen}
+use Rattle.flat.specs.declared.FlatApply.{FlatApply}
 use Rattle.flat.specs.declared.FlatCode.{FlatCode}
 use Rattle.flat.specs.declared.FlatRead.{FlatRead}
 use Rattle.flat.specs.declared.FlatEntry.{FlatEntry}
@@ -43,10 +45,16 @@ pub record NextCall (taps : ℕ) (fields : FlatFields) (sender : FlatSender) (qu
   pub outcome : NextOutcome taps (fieldsOf fields) (senderOf sender) queue out answer queue′ out′
   pub flat : r ≡ flatNext sender answer
 
-pub record ReceiveCall (taps : ℕ) (frame : List ℕ) (receiver : FlatReceiver) (hold list : List ℕ) (r : FlatReceive) (hold′ list′ : List ℕ) : Type 0 where
-  pub answer : ReceiveAnswer
-  pub outcome : ReceiveOutcome taps frame (receiverOf receiver) hold list answer hold′ list′
-  pub flat : r ≡ flatReceive receiver answer
+pub record OpenCall (taps : ℕ) (frame before : List ℕ) (r : FlatOpen) (after : List ℕ) : Type 0 where
+  pub answer : OpenAnswer
+  pub outcome : OpenOutcome taps frame before answer after
+  pub flat : r ≡ flatOpen answer
+
+pub record ApplyCall (header : FlatHeader) (area : List ℕ) (receiver : FlatReceiver) (hold list : List ℕ)
+    (r : FlatApply) (hold′ list′ : List ℕ) : Type 0 where
+  pub answer : ApplyAnswer
+  pub outcome : ApplyOutcome (headerOf header) area (receiverOf receiver) hold list answer hold′ list′
+  pub flat : r ≡ flatApply receiver answer
 
 pub record CodeCall (header : FlatHeader) (before : List ℕ) (r : FlatCode) (after : List ℕ) : Type 0 where
   pub answer : CodeAnswer

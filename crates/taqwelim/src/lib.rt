@@ -1,11 +1,12 @@
 // The calls for C: each is one call of the library, on what C's numbers stand for, and its answer as numbers. include/taqwelim.h declares them.
+use flat::FlatApply;
 use flat::FlatCode;
 use flat::FlatEntry;
 use flat::FlatNext;
+use flat::FlatOpen;
 use flat::FlatPacket;
 use flat::FlatPut;
 use flat::FlatRead;
-use flat::FlatReceive;
 use flat::FlatWaiting;
 use flat::headers;
 use flat::headers::FlatFields;
@@ -15,7 +16,7 @@ use flat::states::FlatReceiver;
 use flat::states::FlatSender;
 use receiver::Receiver;
 use sender::Sender;
-ghost use Rattle.taqwelim.specs.Calls.{FreshSenderCall, PutCall, WaitingCall, NextCall, FreshReceiverCall, ReceiveCall, EntryCall, PacketCall};
+ghost use Rattle.taqwelim.specs.Calls.{FreshSenderCall, PutCall, WaitingCall, NextCall, FreshReceiverCall, OpenCall, ApplyCall, EntryCall, PacketCall};
 ghost use Rattle.taqwelim.specs.Calls.{CodeCall, ReadCall, LevelCall};
 
 #[no_mangle]
@@ -71,19 +72,30 @@ pub extern "C" fn taqwelim_fresh_receiver() -> FlatReceiver
     states::flat_receiver(Receiver::fresh())
 }
 
-// Refusals: 1, 2, 3, 7 to 9, 11 to 15.
+// Refusals: 1, 2, 7 to 9, 11 to 13.
 #[no_mangle]
-pub extern "C" fn taqwelim_receive(
-    taps: u32,
-    frame: &[u8],
+pub extern "C" fn taqwelim_open(taps: u32, frame: &[u8], area: &mut [u8]) -> FlatOpen
+    ensures { λ r. ⌜ OpenCall taps (now (frame .entry)) (now (area .entry)) r (now (area .exit)) ⌝ }
+{
+    let answer = opening::open(taps, frame, area);
+    flat::flat_open(answer)
+}
+
+// Refusals: 2, 3, 11, 14, 15.
+#[no_mangle]
+pub extern "C" fn taqwelim_apply(
+    header: FlatHeader,
+    area: &[u8],
     receiver: FlatReceiver,
     hold: &mut [u8],
     list: &mut [u8],
-) -> FlatReceive
-    ensures { λ r. ⌜ ReceiveCall taps (now (frame .entry)) receiver (now (hold .entry)) (now (list .entry)) r (now (hold .exit)) (now (list .exit)) ⌝ }
+) -> FlatApply
+    ensures { λ r. ⌜ ApplyCall header (now (area .entry)) receiver (now (hold .entry)) (now (list .entry)) r (now (hold .exit)) (now (list .exit)) ⌝ }
 {
-    let answer = receiving::receive(taps, frame, states::receiver_of(receiver), hold, list);
-    flat::flat_receive(receiver, answer)
+    let opened = headers::header_of(header);
+    let given = states::receiver_of(receiver);
+    let answer = receiver::apply(opened, area, given, hold, list);
+    flat::flat_apply(receiver, answer)
 }
 
 // Refusal: 16.

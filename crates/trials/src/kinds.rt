@@ -64,7 +64,7 @@ fn print_rows(tally: Tally, more: u64)
     );
     tally.print_kinds(
         21 + more,
-        b"hold and list begun\nframe received\nlist changed\nlist read\nlist in full\nhold in full\narea applied\n",
+        b"hold and list begun\nframe opened and applied\nlist changed\nlist read\nlist in full\nhold in full\narea applied\n",
     );
     tally.print_kinds(
         28 + more,

@@ -1,4 +1,4 @@
--- The session is safe and ends: no call changes the length of what is lent, so that every turn finds the four buffers at their sizes;
+-- The session is safe and ends: no call changes the length of what is lent, so that every turn finds the five buffers at their sizes;
 -- the measure is the number of frames left.
 use borrow.Author.Needs.{needs}
 use native.Mathlib.Omega.{arith}
@@ -9,11 +9,11 @@ use Rattle.demo_session.proofs.main.Statement.{statement}
 use Rattle.demo_session.proofs.main.Tie as tie
 
 abbrev Inv-loop : tie.InvT-loop
-Inv-loop queue₀ frame₀ hold₀ list₀ near₀ far₀ count₀ queue frame hold list near far count =
-    (length queue ≡ 32768) × (length frame ≡ 2081) × (length hold ≡ 9000) × (length list ≡ 10907)
+Inv-loop queue₀ frame₀ area₀ hold₀ list₀ near₀ far₀ count₀ queue frame area hold list near far count =
+    (length queue ≡ 32768) × (length frame ≡ 2081) × (length area ≡ 1908) × (length hold ≡ 9000) × (length list ≡ 10907)
 
 abbrev μ-loop : tie.MeasureT-loop
-μ-loop queue₀ frame₀ hold₀ list₀ near₀ far₀ count₀ queue frame hold list near far count = 64 - count
+μ-loop queue₀ frame₀ area₀ hold₀ list₀ near₀ far₀ count₀ queue frame area hold list near far count = 64 - count
 
 fresh-requires : tie.Need-fresh-requires Inv-loop μ-loop
 fresh-requires c κs = search needs
@@ -56,10 +56,15 @@ slice-aggregate-arrive-3 c =
     let at-loop = c .before .before .before .before .before .before .before .before .before .loop in
     omega (arith, (at-loop .inv .3))
 
+slice-aggregate-arrive-4 : tie.Need-slice-aggregate-arrive-4 Inv-loop μ-loop
+slice-aggregate-arrive-4 c =
+    let at-loop = c .before .before .before .before .before .before .before .before .before .before .loop in
+    omega (arith, (at-loop .inv .4))
+
 arrive-requires : tie.Need-arrive-requires Inv-loop μ-loop
 arrive-requires c κs =
-    let at-next = c .before .before .before .before .before .next in
-    let at-loop = c .before .before .before .before .before .before .before .before .before .loop in
+    let at-next = c .before .before .before .before .before .before .next in
+    let at-loop = c .before .before .before .before .before .before .before .before .before .before .loop in
     omega (arith, (at-next .kept .1 .1 .1 .0), (at-loop .inv .1))
 
 add-count : tie.Need-add-count Inv-loop μ-loop
@@ -70,13 +75,14 @@ loop-less c = omega arith
 
 loop-again : tie.Need-loop-again Inv-loop μ-loop
 loop-again c =
-    let at-next = c .before .before .before .before .before .before .before .before .before .next in
-    let at-loop = c .before .before .before .before .before .before .before .before .before .before .before .before .before .loop in
-    let at-arrive = c .before .before .before .arrive in (
+    let at-arrive = c .before .before .before .before .arrive in
+    let at-next = c .before .before .before .before .before .before .before .before .before .before .before .next in
+    let at-loop = c .before .before .before .before .before .before .before .before .before .before .before .before .before .before .before .loop in (
       omega (arith, (at-next .kept .1 .1 .0), (at-loop .inv .0)),
       omega (arith, (at-arrive .kept .1 .1 .1 .1 .0), (at-next .kept .1 .1 .1 .0), (at-loop .inv .1)),
       omega (arith, (at-arrive .kept .1 .1 .1 .1 .1 .0), (at-loop .inv .2)),
       omega (arith, (at-arrive .kept .1 .1 .1 .1 .1 .1 .0), (at-loop .inv .3)),
+      omega (arith, (at-arrive .kept .1 .1 .1 .1 .1 .1 .1 .0), (at-loop .inv .4)),
     )
 
 print-totals-requires : tie.Need-print-totals-requires Inv-loop μ-loop
@@ -101,6 +107,7 @@ main-spec =
     slice-aggregate-arrive
     slice-aggregate-arrive-2
     slice-aggregate-arrive-3
+    slice-aggregate-arrive-4
     arrive-requires
     add-count
     loop-less

@@ -7,11 +7,11 @@ use Rattle.listing.proofs.list_all.Statement.{statement}
 use Rattle.listing.proofs.list_all.Tie as tie
 
 abbrev Inv-loop : tie.InvT-loop
-Inv-loop frame₀ hold₀ list₀ receiver₀ place₀ frame hold list receiver place =
-    (length frame ≡ length frame₀) × (length hold ≡ length hold₀) × (length list ≡ length list₀)
+Inv-loop frame₀ area₀ hold₀ list₀ receiver₀ place₀ frame area hold list receiver place =
+    (length frame ≡ length frame₀) × (length area ≡ length area₀) × (length hold ≡ length hold₀) × (length list ≡ length list₀)
 
 abbrev μ-loop : tie.MeasureT-loop
-μ-loop frame₀ hold₀ list₀ receiver₀ place₀ frame hold list receiver place = 18446744073709551615 - place
+μ-loop frame₀ area₀ hold₀ list₀ receiver₀ place₀ frame area hold list receiver place = 18446744073709551615 - place
 
 fresh-requires : tie.Need-fresh-requires Inv-loop μ-loop
 fresh-requires c κs = search needs
@@ -58,6 +58,12 @@ same-length-5 c = search needs
 same-length-6 : tie.Need-same-length-6 Inv-loop μ-loop
 same-length-6 c = search needs
 
+same-length-7 : tie.Need-same-length-7 Inv-loop μ-loop
+same-length-7 c = search needs
+
+same-length-8 : tie.Need-same-length-8 Inv-loop μ-loop
+same-length-8 c = search needs
+
 returns-2 : tie.Need-returns-2 Inv-loop μ-loop
 returns-2 c = search needs
 
@@ -74,12 +80,14 @@ list-all-spec =
     same-length
     same-length-2
     same-length-3
+    same-length-4
     returns
     enum-told
     add-place
     loop-less
     loop-again
-    same-length-4
     same-length-5
     same-length-6
+    same-length-7
+    same-length-8
     returns-2)

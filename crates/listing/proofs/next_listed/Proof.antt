@@ -21,20 +21,17 @@ same-length c = search needs
 returns : tie.Need-returns
 returns c = search needs
 
-slice-reshare-prefix-receive : tie.Need-slice-reshare-prefix-receive
-slice-reshare-prefix-receive c =
+slice-reshare-prefix-listed : tie.Need-slice-reshare-prefix-listed
+slice-reshare-prefix-listed c =
     let at-length = c .before .before in
     subst (λ (piece : Piece). Within piece (at-length .before .before .before .before .read-frame .last .0)) (at-length .length .given .1)
     (at-length .before .before .before .before .read-frame .ensures) .0
 
-slice-aggregate-receive : tie.Need-slice-aggregate-receive
-slice-aggregate-receive c =
+slice-aggregate-listed : tie.Need-slice-aggregate-listed
+slice-aggregate-listed c =
     let at-length = c .before .before .before in
     subst (λ (piece : Piece). Within piece (at-length .before .before .before .before .read-frame .last .0)) (at-length .length .given .1)
     (at-length .before .before .before .before .read-frame .ensures) .1
-
-receive-requires : tie.Need-receive-requires
-receive-requires c κs = search needs
 
 listed-requires : tie.Need-listed-requires
 listed-requires c κs = search needs
@@ -54,6 +51,9 @@ same-length-4 c = search needs
 same-length-5 : tie.Need-same-length-5
 same-length-5 c = search needs
 
+same-length-6 : tie.Need-same-length-6
+same-length-6 c = search needs
+
 returns-3 : tie.Need-returns-3
 returns-3 c = search needs
 
@@ -66,13 +66,13 @@ next-listed-spec =
     enum-known-length
     same-length
     returns
-    slice-reshare-prefix-receive
-    slice-aggregate-receive
-    receive-requires
+    slice-reshare-prefix-listed
+    slice-aggregate-listed
     listed-requires
     same-length-2
     returns-2
     same-length-3
     same-length-4
     same-length-5
+    same-length-6
     returns-3)

@@ -1,4 +1,4 @@
--- By the case of the answer: a received frame brings its receiver, a refused one leaves the one before, as in the definition.
+-- By the case of the answer: an applied frame brings its receiver, a refused one leaves the one before, as in the definition.
 use borrow.Author.Needs.{needs}
 use Rattle.listing_lines.proofs.receiver_after.Statement.{statement}
 use Rattle.listing_lines.proofs.receiver_after.Tie as tie

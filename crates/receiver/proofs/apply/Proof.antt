@@ -36,16 +36,16 @@ missed-before-requires c κs = search needs
 held-after-requires : tie.Need-held-after-requires
 held-after-requires c κs = search needs
 
-slice-reshare-prefix-area-refusal : tie.Need-slice-reshare-prefix-area-refusal
-slice-reshare-prefix-area-refusal c =
+slice-reshare-prefix-opened-refusal : tie.Need-slice-reshare-prefix-opened-refusal
+slice-reshare-prefix-opened-refusal c =
     let missed = c .before in
     let passed = missed .before .before in
     let given = passed .before .before .before .before .before .before .before .args in
     held-inside (given .area .now) (given .receiver) (given .hold .now) (given .list .now) (missed .missed-before .result) (c .held-after .result)
     (sym (passed .before .buffers-refusal .ensures) ∙ passed .if1 .left) (c .held-after .ensures)
 
-slice-aggregate-area-refusal : tie.Need-slice-aggregate-area-refusal
-slice-aggregate-area-refusal c =
+slice-aggregate-opened-refusal : tie.Need-slice-aggregate-opened-refusal
+slice-aggregate-opened-refusal c =
     let held = c .before in
     let missed = held .before in
     let passed = missed .before .before in
@@ -53,15 +53,15 @@ slice-aggregate-area-refusal c =
     held-length (given .area .now) (given .receiver) (given .hold .now) (given .list .now) (missed .missed-before .result) (held .held-after .result)
     (sym (passed .before .buffers-refusal .ensures) ∙ passed .if1 .left) (held .held-after .ensures)
 
-area-refusal-requires : tie.Need-area-refusal-requires
-area-refusal-requires c κs = search needs
+opened-refusal-requires : tie.Need-opened-refusal-requires
+opened-refusal-requires c κs = search needs
 
 -- once both tables were asked, their number is the frame's
-judging : (c : tie.After-area-refusal)
+judging : (c : tie.After-opened-refusal)
     → let missed = c .before .before .before in
     let given = missed .before .before .before .before .before .before .before .before .before .args in
     Judged (given .header) (given .area .now) (given .receiver) (given .hold .now) (given .list .now)
-    (missed .missed-before .result) (c .before .before .held-after .result) (c .area-refusal .result)
+    (missed .missed-before .result) (c .before .before .held-after .result) (c .opened-refusal .result)
 judging c =
     let held = c .before .before in
     let missed = held .before in
@@ -69,7 +69,7 @@ judging c =
     let given = passed .before .before .before .before .before .before .before .args in
     judged (given .header) (given .area .now) (given .receiver) (given .hold .now) (given .list .now)
     (sym (passed .before .buffers-refusal .ensures) ∙ passed .if1 .left)
-    (missed .missed-before .ensures) (held .held-after .ensures) (c .area-refusal .ensures)
+    (missed .missed-before .ensures) (held .held-after .ensures) (c .opened-refusal .ensures)
 
 same-length-3 : tie.Need-same-length-3
 same-length-3 c = search needs
@@ -138,9 +138,9 @@ apply-spec =
     returns
     missed-before-requires
     held-after-requires
-    slice-reshare-prefix-area-refusal
-    slice-aggregate-area-refusal
-    area-refusal-requires
+    slice-reshare-prefix-opened-refusal
+    slice-aggregate-opened-refusal
+    opened-refusal-requires
     same-length-3
     same-length-4
     returns-2
