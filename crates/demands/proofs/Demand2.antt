@@ -117,8 +117,8 @@ some-one : (a b : List Piece) → some a ≡ some b → b ≡ a
 some-one a b e = cc
 
 -- the pieces of a frame are the records of its area
-records-are : (header : Header) (area : List ℕ) (pieces : List Piece) → HasPieces header area pieces → piecesOf (header .kind) area ≡ some pieces
-records-are header area pieces has = go (isData (header .kind)) refl
+pieces-read : (header : Header) (area : List ℕ) (pieces : List Piece) → HasPieces header area pieces → piecesOf (header .kind) area ≡ some pieces
+pieces-read header area pieces has = go (isData (header .kind)) refl
   where
     go : (test : Bool) → isData (header .kind) ≡ test → piecesOf (header .kind) area ≡ some pieces
     go true t = data-records (header .kind) area t ∙ allowed-read area pieces (has .data-frame t)
@@ -152,14 +152,14 @@ module _ (header : Header) (area : List ℕ) (receiver : Receiver) (hold list : 
       apply-pass header area receiver hold list (record {
         buffers = record { sized = f .area-size; long = f .hold-size; room = f .list-size; most = f .held };
         fits = f .may-be-sent;
-        read = (λ j. firstOf (areaTable part (records-are header area (f .pieces) (f .has) j))) ∙ read-as part (f .pieces) ∙ rw (f .joined) refl;
+        read = (λ j. firstOf (areaTable part (pieces-read header area (f .pieces) (f .has) j))) ∙ read-as part (f .pieces) ∙ rw (f .joined) refl;
       })
 
   list-back-so : (pieces : List Piece) → HasPieces header area pieces → (missed packets listed : ℕ) (after : Receiver) (hold′ list′ : List ℕ)
       → ApplyOutcome header area receiver hold list (Applied missed packets listed after) hold′ list′
       → (packetsRead (take listed list′) ≡ some (onPieces part pieces .out)) × (packets ≡ length (onPieces part pieces .out))
   list-back-so pieces has missed packets listed after hold′ list′ o =
-      rw (← joined-pieces header area receiver hold pieces (records-are header area pieces has))
+      rw (← joined-pieces header area receiver hold pieces (pieces-read header area pieces has))
       (apply-read header area receiver hold list missed packets listed after hold′ list′ o)
 
 -- ---- the demand

@@ -96,7 +96,8 @@ pub record BothCalls : Type 0 where
 -- what was opened is applied, once and as opened; where `open` refused, that refusal stands, and nothing is applied
 abbrev pub AppliedAs : OpenAnswer → List ℕ → Receiver → List ℕ → List ℕ → ApplyAnswer → List ℕ → List ℕ → Type 0
 AppliedAs (opening.Opened header) area receiver hold list answer hold′ list′ = ApplyOutcome header area receiver hold list answer hold′ list′
-AppliedAs (opening.Refused number) area receiver hold list answer hold′ list′ = (answer ≡ apply.Refused number) × (hold′ ≡ hold) × (list′ ≡ list)
+AppliedAs (opening.Refused number) area receiver hold list answer hold′ list′ =
+    (answer ≡ apply.Refused number) × (hold′ ≡ hold) × (list′ ≡ list)
 
 -- both meet their contracts, one after the other; the caller cuts the area to its 1,908 bytes
 abbrev pub Receives : ℕ → List ℕ → Receiver → List ℕ → BothCalls → Type 0
