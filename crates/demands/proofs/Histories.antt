@@ -90,7 +90,7 @@ heldThen (applying.Applied missed packets listed receiver) hold left = hold
 heldThen (applying.Refused number) hold left = left
 
 module _ (taps : ℕ) where
-  -- the two both of a frame
+  -- the two calls that a frame is given to, with what their contracts determine
   pub received : (frame : List ℕ) (receiver : Receiver) (hold area list : List ℕ) → (both : BothCalls) × Receives taps frame receiver hold both
   received frame receiver hold area list =
       let first = every-call-holds .open-frame taps frame area .answered in

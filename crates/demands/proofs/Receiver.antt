@@ -10,7 +10,7 @@ use lib.ListN.{length, take}
 use Rattle.basics.specs.Counts.{nextTxfn}
 use Rattle.lent.specs.Refusals.{firstOf}
 use Rattle.lent.specs.Written.{written}
-use Rattle.lent.proofs.Written.{written-length, written-front}
+use Rattle.lent.proofs.Written.{written-front}
 use Rattle.scrambler.specs.Scrambler.{tapsAllowed}
 use Rattle.header.specs.Header.{allOnes}
 use Rattle.header.specs.declared.Header.{Header}
@@ -18,19 +18,16 @@ use Rattle.opening.specs.declared.OpenAnswer.{OpenAnswer}
 use Rattle.opening.specs.declared.OpenAnswer.the-variants as opening
 use Rattle.opening.proofs.Theorems.{open-of-built}
 use Rattle.link.proofs.Machine as machine
-use Rattle.link.specs.Link.{Packet, Piece, fits, Answer}
+use Rattle.link.specs.Link.{Piece, fits, Answer}
 use Rattle.link.proofs.Machine.{deliver}
 use Rattle.link.specs.Ledger.{Mark}
-use Rattle.link.specs.Store.{layoutPackets}
 use Rattle.receiver.specs.Applying.{freshReceiver, piecesOf, missedCount, heldPart, joined, areaTable, applyRefusal, ApplyOutcome, receiverAfter}
 use Rattle.receiver.specs.declared.Receiver.{Receiver}
 use Rattle.receiver.specs.declared.ApplyAnswer.{ApplyAnswer}
 use Rattle.receiver.specs.declared.ApplyAnswer.the-variants as answer
 use Rattle.receiver.proofs.Machine.{standing, machine-takes, machine-refuses}
 use Rattle.receiver.proofs.Tables.{BuffersPassed, read-as, opened-by-area}
-use Rattle.receiver.proofs.Laws.{accepted-answer, accepted-hold, accepted-list, refused-answer, refused-hold, apply-pass, by-opened, joined-well}
-use Rattle.list.specs.Entries.{packetsRead}
-use Rattle.list.proofs.Whole.{list-read}
+use Rattle.receiver.proofs.Laws.{accepted-answer, accepted-hold, refused-answer, refused-hold, apply-pass, by-opened, apply-own}
 use Rattle.demands.specs.Demand3.{
   BothCalls,
   AppliedAs,
@@ -46,6 +43,7 @@ use Rattle.demands.specs.Demand3.{
   learned,
 }
 use Rattle.demands.proofs.Demand1.{every-call-holds}
+use Rattle.demands.proofs.ReadBack.{apply-read}
 use Rattle.demands.proofs.Sender.{Sends, AllSend, own-pieces}
 
 -- The state and the hold's bytes stand for a receiver of `Machine`, and are not refused for what they are.
@@ -96,9 +94,6 @@ module _ (taps : ℕ) (frame : List ℕ) (receiver : Receiver) (hold : List ℕ)
   abbrev part : List ℕ
   part = heldPart header receiver hold
 
-  abbrev out : List Packet
-  out = joined header area receiver hold .out
-
   abbrev held : List ℕ
   held = joined header area receiver hold .held
 
@@ -120,17 +115,17 @@ module _ (taps : ℕ) (frame : List ℕ) (receiver : Receiver) (hold : List ℕ)
   accepts e =
       let read = area-number true e in
       let z = apply-pass header area receiver hold (both .list) (record { buffers = buffers; fits = s .carries .fits-header; read = read }) in
-      let well = joined-well header area receiver hold (h .most) read in
-      let is = sym comes-so ∙ machine-takes header area receiver hold pieces (own-pieces taps s) e in
-      rw (is, accepted-answer applies z, accepted-hold applies z, accepted-list applies z)
+      let said = accepted-answer applies z in
+      let o = rw said at applies in
+      let leaves = apply-own header area receiver hold (both .list) _ _ _ _ (both .hold′) (both .list′) o in
+      let front : take (length held) (both .hold′) ≡ held = ap (take (length held)) (accepted-hold applies z) ∙ written-front hold held (length held) refl in
+      rw (sym comes-so ∙ machine-takes header area receiver hold pieces (own-pieces taps s) e, said)
       (record {
-        learns = ap (λ (l : List ℕ). readOut (missedCount header receiver) (packetsRead l))
-            (written-front (both .list) (layoutPackets out) (length (layoutPackets out)) refl)
-            ∙ ap (readOut (missedCount header receiver)) (list-read out (well .packets));
+        learns = ap (readOut (missedCount header receiver)) (apply-read header area receiver hold (both .list) _ _ _ _ (both .hold′) (both .list′) o .0);
         holds = record {
-          stands = λ j. record { expected = some (nextTxfn (header .txfn .0)); held = written-front hold held (length held) refl j };
-          most = well .held;
-          long = written-length hold 0 held (omega (arith, h .long, well .held)) ∙ h .long;
+          stands = λ j. record { expected = some (nextTxfn (header .txfn .0)); held = front j };
+          most = leaves .most;
+          long = leaves .long;
         };
       })
 

@@ -1,4 +1,4 @@
--- What opening a frame does: the refusals 1, 2, 7 to 9 and 11 to 13, and the header and the area of a frame that is accepted (01, "Refusal numbers").
+-- Opening a frame (01, "Refusal numbers"; 02, M-106): the refusals 1, 2, 7 to 9 and 11 to 13, and the header and the area of a frame that is accepted.
 use mathlib.Core.Path.{_≡_}
 use mathlib.Core.Bool.{Bool, _&&_}
 use mathlib.Core.List.{List, [], _∷_, _++_}

@@ -86,7 +86,7 @@ module _ (header : Header) (area : List ℕ) (receiver : Receiver) (hold list : 
 
 -- ---- what an accepted frame leaves
 
-pub records-are : (kind : FrameKind) (area : List ℕ) (pieces : List Piece) → piecesOf kind area ≡ some pieces → AreaPieces pieces
+records-are : (kind : FrameKind) (area : List ℕ) (pieces : List Piece) → piecesOf kind area ≡ some pieces → AreaPieces pieces
 records-are kind area pieces = go (isData kind)
   where
     go : (test : Bool) → cond test (read area) (some []) ≡ some pieces → AreaPieces pieces
@@ -94,7 +94,7 @@ records-are kind area pieces = go (isData kind)
     go false e = let none-are : [] ≡ pieces = cc in rw (← none-are) no-pieces
 
 -- a held part that is dropped or kept is no longer than it was
-pub part-few : (missed : ℕ) (part : List ℕ) → length part ≤ 8999 → length (heldAfter missed part) ≤ 8999
+part-few : (missed : ℕ) (part : List ℕ) → length part ≤ 8999 → length (heldAfter missed part) ≤ 8999
 part-few zero part h = h
 part-few (suc missed) part h = omega arith
 
@@ -105,7 +105,7 @@ pub record JoinedWell (step : Step) : Type 0 where
   pub listed : length (layoutPackets (step .out)) ≤ 10907
   pub held : length (step .held) ≤ 8999
 
-pub joined-well : (header : Header) (area : List ℕ) (receiver : Receiver) (hold : List ℕ) → receiver .held ≤ 8999
+joined-well : (header : Header) (area : List ℕ) (receiver : Receiver) (hold : List ℕ) → receiver .held ≤ 8999
     → firstOf (areaTable (heldPart header receiver hold) (piecesOf (header .kind) area)) ≡ 0 → JoinedWell (joined header area receiver hold)
 unfolding joined
 joined-well header area receiver hold h z =
