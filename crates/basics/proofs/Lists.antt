@@ -15,6 +15,15 @@ pub zeros-snoc : (n : ℕ) → zeros n ++ 0 ∷ [] ≡ zeros (suc n)
 zeros-snoc zero = refl
 zeros-snoc (suc n) = ap (λ (l : List ℕ). 0 ∷ l) (zeros-snoc n)
 
+pub zeros-bytes : (n : ℕ) → Bytes (zeros n)
+zeros-bytes zero = tt
+zeros-bytes (suc n) = (omega arith, zeros-bytes n)
+
+pub zeros-at : (n k : ℕ) → getD (zeros n) k 0 ≡ 0
+zeros-at zero k = refl
+zeros-at (suc n) zero = refl
+zeros-at (suc n) (suc k) = zeros-at n k
+
 -- a zero behind a list is not seen
 pub zero-behind : (l : List ℕ) (k : ℕ) → getD (l ++ 0 ∷ []) k 0 ≡ getD l k 0
 zero-behind [] zero = refl
@@ -49,6 +58,11 @@ bytes-drop n l h = bytes-behind (take n l) (drop n l) (subst Bytes (sym (take-ap
 
 pub bytes-take : (n : ℕ) (l : List ℕ) → Bytes l → Bytes (take n l)
 bytes-take n l h = bytes-front (take n l) (drop n l) (subst Bytes (sym (take-append-drop n l)) h)
+
+pub bytes-entries : (f : ℕ → ℕ) (i n : ℕ) → ((k : ℕ) → k < i + n → f k < 256) → Bytes (entries f i n)
+unfolding entries
+bytes-entries f i zero h = tt
+bytes-entries f i (suc n) h = (h i (omega arith), bytes-entries f (suc i) n (λ k l. h k (omega arith)))
 
 pub entries-length : (f : ℕ → ℕ) (i n : ℕ) → length (entries f i n) ≡ n
 unfolding entries

@@ -1,6 +1,6 @@
 -- A number is its bytes, and bytes are their number: once, over the count of bytes. And the bytes of a number one by one, those of a sum too.
 use mathlib.Core.Path.{_≡_, refl, sym, ap, ap₂, _∙_}
-use mathlib.Core.List.{List, _∷_, _++_}
+use mathlib.Core.List.{List, [], _∷_, _++_}
 use Prim.Native.Nat.{ℕ, zero, suc, _+_, _*_, _/_, _%_, _^_, _≤_, _<_}
 use native.Mathlib.Nat.{not-suc-le-zero, le-of-suc-le-suc, mod-lt}
 use native.Mathlib.Omega.{arith}
@@ -8,8 +8,8 @@ use lib.Dec.{lit<}
 use lib.Bits.{bitXor, xor-shr, xor-mod}
 use lib.ListN.{length, getD, drop}
 use Rattle.basics.specs.Lists.{Bytes, entries}
-use Rattle.basics.specs.Numbers.{lowFirst, numberAt}
-use Rattle.basics.proofs.Lists.{byte, byte-at, entries-at, entries-then}
+use Rattle.basics.specs.Numbers.{lowFirst, highFirst, numberAt}
+use Rattle.basics.proofs.Lists.{bytes-append, byte, byte-at, entries-at, entries-then}
 
 number-behind : (i n b : ℕ) (l : List ℕ) → numberAt (suc i) n (b ∷ l) ≡ numberAt i n l
 number-behind i zero b l = refl
@@ -43,6 +43,15 @@ number-lt l h i (suc n) =
     let b = byte-at l h i in
     let rest = number-lt l h (suc i) n in
     omega arith
+
+-- each of the n is a byte, in both orders
+pub low-first-bytes : (n x : ℕ) → Bytes (lowFirst n x)
+low-first-bytes zero x = tt
+low-first-bytes (suc n) x = (mod-lt x (lit< tt), low-first-bytes n (x / 256))
+
+pub high-first-bytes : (n x : ℕ) → Bytes (highFirst n x)
+high-first-bytes zero x = tt
+high-first-bytes (suc n) x = bytes-append (highFirst n (x / 256)) ((x % 256) ∷ []) (high-first-bytes n (x / 256)) (mod-lt x (lit< tt), tt)
 
 -- ---- byte k of a number, the lowest first
 

@@ -35,6 +35,7 @@ use Rattle.sender.proofs.Stands.{Stands}
 use Rattle.sending.specs.Next.{areaFor, headerFor, leftIn, nextRefusal, NextOutcome}
 use Rattle.sending.specs.declared.NextAnswer.the-variants.{Sent}
 use Rattle.sending.proofs.Left.{left-bytes}
+use Rattle.sending.proofs.AreaBytes.{area-bytes}
 use Rattle.sending.proofs.Ring.{not-refused, passed, state-is, ring-is, waits-bytes, laid, left-fits}
 
 -- a coded frame has this number and this content
@@ -44,6 +45,7 @@ pub record Carries (taps : ℕ) (frame : List ℕ) (number : ℕ) (opened : Open
   pub counted : header .txfn .0 ≡ number
   pub kind-is : header .kind ≡ cond (opened .isData) Data Idle
   pub long : length (opened .area) ≡ 1908
+  pub bytes : Bytes (opened .area)
   pub coded : frame ≡ frameBytes taps header (opened .area)
 
 module _ (taps : ℕ) (fields : Fields) (sender : Sender) (bytes out : List ℕ) (sender′ : Sender) (kind : FrameKind) (bytes′ out′ : List ℕ) (i : ℕ) where
@@ -57,6 +59,9 @@ module _ (taps : ℕ) (fields : Fields) (sender : Sender) (bytes out : List ℕ)
 
     is-queue : IsQueue queue
     is-queue = parse-queue waits queue (whole-parsed waits (passed outcome .whole))
+
+    queue-bytes : Bytes (layout queue)
+    queue-bytes = rw (laid outcome b) (waits-bytes outcome b)
 
     carries : Carries taps (take 2081 out′) (i % 65536) (frameFor bench queue)
     unfolding bench
@@ -73,6 +78,7 @@ module _ (taps : ℕ) (fields : Fields) (sender : Sender) (bytes out : List ℕ)
           counted = count;
           kind-is = refl;
           long = long;
+          bytes = area-bytes queue queue-bytes;
           coded = ap (take 2081) frame
               ∙ written-front out (frameBytes taps header (areaFor queue)) 2081 (frame-length allOnes header taps (areaFor queue) long);
         }
@@ -83,7 +89,7 @@ module _ (taps : ℕ) (fields : Fields) (sender : Sender) (bytes out : List ℕ)
         let rest = layout left in
         let p = passed outcome in
         let at = startAfter (sender .start) (sender .used) (length rest) in
-        let rest-bytes : Bytes rest = left-bytes queue is-queue (rw (laid outcome b) (waits-bytes outcome b)) in
+        let rest-bytes : Bytes rest = left-bytes queue is-queue queue-bytes in
         let read : usedIn (ringWritten bytes at 0 rest) at (length rest) ≡ rest =
         ap (take (length rest)) (ring-read bytes at 0 rest (omega (arith, p .long)) (omega (arith, p .long, p .most, left-fits outcome b)))
         ∙ written-front (roundFrom at bytes) rest (length rest) refl in

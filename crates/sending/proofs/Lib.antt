@@ -1,4 +1,5 @@
 pub mod Left
+pub mod AreaBytes
 pub mod Ring
 pub mod Sending
 pub mod Carried
