@@ -20,9 +20,19 @@ pub fn is_codeword(form: Form, word: &[u8]) -> bool
     requires { ⌜ 16 ≤ length (now word) ⌝ }
 {
     match form {
-        Form::Quick => reed_solomon::is_codeword(word),
+        Form::Quick => leaves_nothing(word),
         Form::Plain => plain_reed_solomon::is_codeword(word),
     }
+}
+
+// The quick form answers with what division leaves.
+fn leaves_nothing(word: &[u8]) -> bool
+    requires { ⌜ 16 ≤ length (now word) ⌝ }
+{
+    if 255 < word.len() {
+        return false;
+    }
+    lent::are_same(&reed_solomon::remainder_of(word), &[0u8; 16])
 }
 
 pub fn write_parity(form: Form, payload: &mut [u8])
@@ -36,9 +46,16 @@ pub fn write_parity(form: Form, payload: &mut [u8])
 
 pub fn are_codewords(form: Form, payload: &[u8]) -> bool {
     match form {
-        Form::Quick => interleaving::are_codewords(payload),
+        Form::Quick => all_leave_nothing(payload),
         Form::Plain => plain_reed_solomon::are_codewords(payload),
     }
+}
+
+fn all_leave_nothing(payload: &[u8]) -> bool {
+    if payload.len() != 2040 {
+        return false;
+    }
+    lent::are_same(&interleaving::remainders(payload), &[0u8; 128])
 }
 
 pub fn scramble(form: Form, taps: u32, bytes: &mut [u8]) {

@@ -1,7 +1,7 @@
 -- Laws of a function done to each byte of a number; from them the product of eight bytes, a bit of the factor at a time.
 use mathlib.Core.Path.{_≡_, refl, sym, ap, ap₂, _∙_}
 use Prim.Native.Nat.{ℕ, zero, suc, _+_, _-_, _*_, _/_, _%_, _^_, _≤_, _<_}
-use native.Mathlib.Nat.{mod-lt, mod-eq-of-lt, pow-suc, not-suc-le-zero, le-of-suc-le-suc}
+use native.Mathlib.Nat.{mod-lt, pow-suc, not-suc-le-zero, le-of-suc-le-suc}
 use native.Mathlib.Omega.{arith}
 use lib.Dec.{lit<}
 use lib.Arith.{le-zero}
@@ -11,7 +11,7 @@ use Rattle.basics.proofs.Xor.{bit-cases, bit-mul-lt, xor-assoc}
 use Rattle.field.specs.Field.{double, sumOver, times}
 use Rattle.field.specs.EachByte.{eachByte, timesEach}
 use Rattle.field.proofs.Double.{double-lt}
-use Rattle.field.proofs.Laws.{sum-lt, times-lt}
+use Rattle.field.proofs.Laws.{sum-lt}
 
 abbrev pub KeepsBytes : (ℕ → ℕ) → Type 0
 KeepsBytes f = (b : ℕ) → b < 256 → f b < 256
@@ -48,7 +48,8 @@ unfolding eachByte
 each-same f g e zero x = refl
 each-same f g e (suc n) x = ap₂ (λ (a b : ℕ). a * 2 ^ 8 + b) (each-same f g e n (x / 256)) (e (x % 256))
 
-each-plus : (f g : ℕ → ℕ) → KeepsBytes f → KeepsBytes g → (n x : ℕ) → eachByte (λ b. bitXor (f b) (g b)) n x ≡ bitXor (eachByte f n x) (eachByte g n x)
+each-plus : (f g : ℕ → ℕ) → KeepsBytes f → KeepsBytes g → (n x : ℕ)
+    → eachByte (λ b. bitXor (f b) (g b)) n x ≡ bitXor (eachByte f n x) (eachByte g n x)
 unfolding eachByte
 each-plus f g hf hg zero x = refl
 each-plus f g hf hg (suc n) x =
@@ -104,8 +105,3 @@ pub product-end : (sum a y n : ℕ) → n ≤ 0 → bitXor sum (eachByte (sumOve
 unfolding sumOver
 product-end sum a y n h =
     ap (λ (m : ℕ). bitXor sum (eachByte (sumOver m a) 8 y)) (le-zero h) ∙ ap (bitXor sum) (each-zero 8 y) ∙ xor-zero-r sum
-
--- the product of one byte, which stands lowest
-pub product-low : (a b : ℕ) → b < 256 → timesEach b a % 256 ≡ times a b
-unfolding timesEach
-product-low a b h = each-low (times a) (times-lt a) 7 b ∙ ap (times a) (mod-eq-of-lt h)

@@ -1,16 +1,19 @@
--- Every byte but 0 is a power of 2, and has an inverse. That is computed over the list of the 255 powers, which stands in proofs alone: no program holds it.
+-- Every byte but 0 is a power of 2, and so its 254th power is its inverse. That is computed over the list of the 255 powers, which stands in proofs
+-- alone: no program holds it.
 use mathlib.Core.Path.{_≡_, sym, ap, _∙_}
 use mathlib.Core.Bool.{Bool, cond, _&&_}
 use mathlib.Core.List.{List, [], _∷_}
-use Prim.Native.Nat.{ℕ, zero, suc, _+_, _-_, _<_}
-use native.Mathlib.Nat.{add-zero, add-suc, suc-add, zero-add, le-of-suc-le-suc, not-suc-le-zero, sub-add-cancel, le-of-lt}
+use Prim.Native.Nat.{ℕ, zero, suc, _+_, _<_}
+use native.Mathlib.Nat.{add-zero, add-suc, suc-add, zero-add, le-of-suc-le-suc, not-suc-le-zero}
 use lib.Dec.{T, eqb, ltb, eqb→eq, ltb→lt}
 use lib.ListN.{getD}
 use Rattle.basics.specs.Lists.{allBelow}
 use Rattle.basics.proofs.Tests.{and-left, and-right, below}
 use Rattle.division.specs.Doubling.{twice}
 use Rattle.field.specs.Field.{double, power, times}
-use Rattle.field.proofs.Laws.{power-lt, power-add, power-255, one-times, times-zero, times-assoc}
+use Rattle.field.specs.Raised.{raised, inverseOf}
+use Rattle.field.proofs.Laws.{one-times, times-zero, times-assoc, times-comm}
+use Rattle.field.proofs.Raised.{raised-lt, raised-power, power-rounds}
 
 -- n entries, the first of them a, each twice the one before
 unfoldable pub doublings : ℕ → ℕ → List ℕ
@@ -57,16 +60,20 @@ logarithm-of (suc n) p h =
     let l : k < 255 = ltb→lt k 255 (and-left (ltb k 255) (eqb (getD powers k 0) (suc n)) t) in
     (l, sym (power-at k l) ∙ eqb→eq (getD powers k 0) (suc n) (and-right (ltb k 255) (eqb (getD powers k 0) (suc n)) t))
 
-pub inverse : (a : ℕ) → 0 < a → a < 256 → (b : ℕ) × (b < 256) × (times b a ≡ 1)
-inverse a p h =
-    let l = logarithm-of a p h in
-    let k = logarithm a in (
-      power (255 - k),
-      power-lt (255 - k),
-      ap (times (power (255 - k))) (sym (l .1)) ∙ power-add (255 - k) k ∙ ap power (sub-add-cancel (le-of-lt (l .0))) ∙ power-255,
-    )
+-- ---- the inverse: a byte but 0 is 2 to the power k, and its 255th power is 2 to the power 255 k
+
+pub inverse-lt : (a : ℕ) → inverseOf a < 256
+unfolding inverseOf
+inverse-lt a = raised-lt a 254
+
+pub inverse-times : (a : ℕ) → 0 < a → a < 256 → times (inverseOf a) a ≡ 1
+unfolding inverseOf raised
+inverse-times a p h =
+    let k = logarithm a in
+    times-comm (raised a 254) a (raised-lt a 254) h
+    ∙ ap (λ (x : ℕ). raised x 255) (sym (logarithm-of a p h .1)) ∙ raised-power k 255 ∙ power-rounds k
 
 pub no-zero-divisors : (a b : ℕ) → 0 < a → a < 256 → b < 256 → times a b ≡ 0 → b ≡ 0
 no-zero-divisors a b p ha hb e =
-    let i = inverse a p ha in
-    sym (one-times b hb) ∙ ap (λ x. times x b) (sym (i .2)) ∙ times-assoc (i .0) a b (i .1) ha hb ∙ ap (times (i .0)) e ∙ times-zero (i .0)
+    let i = inverseOf a in
+    sym (one-times b hb) ∙ ap (λ x. times x b) (sym (inverse-times a p ha)) ∙ times-assoc i a b (inverse-lt a) ha hb ∙ ap (times i) e ∙ times-zero i

@@ -1,11 +1,11 @@
--- Eight bytes doubled at once: one mask takes the bits that leave at the top, another those that stay.
+-- Eight bytes doubled at once: one mask takes the bits that leave at the top, another those that stay. One byte doubled, by cases.
 use mathlib.Core.Path.{_≡_, sym, ap, ap₂, _∙_}
-use Prim.Native.Nat.{ℕ, zero, suc, _+_, _*_, _/_, _%_, _^_}
+use Prim.Native.Nat.{ℕ, zero, suc, _+_, _-_, _*_, _/_, _%_, _^_, _≤_, _<_}
 use native.Mathlib.Nat.{zero-add}
 use native.Mathlib.Omega.{arith}
 use lib.Arith.{le-zero}
 use lib.Dec.{lit<}
-use lib.Bits.{bitXor, bitAnd, xor-block, and-block, and-mask, and-le-r, xor-self}
+use lib.Bits.{bitXor, bitAnd, xor-block, and-block, and-mask, and-le-r, xor-self, xor-zero-r}
 use Rattle.division.specs.Doubling.{twice}
 use Rattle.field.specs.Field.{double}
 use Rattle.field.specs.EachByte.{eachByte}
@@ -60,3 +60,19 @@ doubles (suc n) x =
     ap₂ bitXor e1 e2
     ∙ xor-block 8 (lows n q * 2) (tops n q * 0x87) (x % 128 * 2) (x % 256 / 128 * 0x87) (omega arith) (omega arith)
     ∙ ap₂ (λ (a b : ℕ). a * 2 ^ 8 + b) (doubles n q) (double-byte x)
+
+-- ---- one byte doubled, by cases of its highest bit
+
+pub double-low : (b : ℕ) → b < 128 → b * 2 ≡ double b
+double-low b h =
+    let low : b * 2 ≡ b % 128 * 2 = omega arith in
+    let top : 0 ≡ b % 256 / 128 * 0x87 = omega arith in
+    let own : b % 256 ≡ b = omega arith in
+    sym (xor-zero-r (b * 2)) ∙ ap₂ bitXor low top ∙ double-byte b ∙ ap double own
+
+pub double-high : (b : ℕ) → 128 ≤ b → b < 256 → bitXor ((b - 128) * 2) 0x87 ≡ double b
+double-high b h l =
+    let low : (b - 128) * 2 ≡ b % 128 * 2 = omega arith in
+    let top : 0x87 ≡ b % 256 / 128 * 0x87 = omega arith in
+    let own : b % 256 ≡ b = omega arith in
+    ap₂ bitXor low top ∙ double-byte b ∙ ap double own

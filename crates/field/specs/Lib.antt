@@ -1,2 +1,3 @@
 pub mod Field
 pub mod EachByte
+pub mod Raised

@@ -1,60 +1,21 @@
 -- The eight writes of the plain form, one for each word, give the coded payload; and the word that it gathers is judged as the payload's.
-use mathlib.Core.Path.{_≡_, refl, sym, ap, ap₂, _∙_}
+use mathlib.Core.Path.{_≡_, refl, sym, ap, _∙_}
 use mathlib.Core.Logic.{⊎-elim}
-use mathlib.Core.List.{List, [], _∷_}
+use mathlib.Core.List.{List}
 use Prim.Native.Nat.{ℕ, zero, suc, _+_, _*_, _≤_, _<_}
-use native.Mathlib.Nat.{not-suc-le-zero, le-of-suc-le-suc, add-zero, eq-or-lt-of-le}
+use native.Mathlib.Nat.{not-suc-le-zero, le-of-suc-le-suc, eq-or-lt-of-le}
 use native.Mathlib.Numerals.{add-one}
 use native.Mathlib.Omega.{arith}
 use lib.Dec.{lit≤}
-use lib.ListN.{length, getD, set, take, drop, drop-of-length-le, length-set}
-use lib.Seq.{drop-cons, getD-set-same, getD-set-other, length-take-le, getD-take}
+use lib.ListN.{length, getD, take}
+use lib.Seq.{length-take-le, getD-take}
 use Rattle.reed_solomon.specs.Code.{parity, isCodeword, lengthened}
 use Rattle.reed_solomon.specs.Payload.{everyEighth, codedPayload}
-use Rattle.plain_reed_solomon.specs.Word.{spread, withParity}
+use Rattle.reed_solomon.specs.Rows.{spread}
+use Rattle.plain_reed_solomon.specs.Word.{withParity}
 use Rattle.reed_solomon.proofs.Laws.{parity-length, lengthened-whole}
 use Rattle.reed_solomon.proofs.Interleaved.{eighth-length, eighth-same, coded-by-places}
-
--- ---- every eighth byte, written
-
-spread-length : (xs : List ℕ) (k : ℕ) (l : List ℕ) → length (spread xs k l) ≡ length l
-unfolding spread
-spread-length [] k l = refl
-spread-length (x ∷ xs) k l = spread-length xs (k + 8) (set l k x) ∙ length-set l k x
-
--- a loop: j of them are written
-pub spread-turn : (p l : List ℕ) (k j : ℕ) → j < length p
-    → spread (drop (j + 1) p) (k + 8 * (j + 1)) (set l (k + 8 * j) (getD p j 0)) ≡ spread (drop j p) (k + 8 * j) l
-unfolding spread
-spread-turn p l k j h =
-    ap₂ (λ (n i : ℕ). spread (drop n p) i (set l (k + 8 * j) (getD p j 0))) (add-one j) (omega arith)
-    ∙ ap (λ (q : List ℕ). spread q (k + 8 * j) l) (sym (drop-cons p j 0 h))
-
-pub spread-end : (p l : List ℕ) (k j : ℕ) → length p ≤ j → spread (drop j p) k l ≡ l
-unfolding spread
-spread-end p l k j h = ap (λ (q : List ℕ). spread q k l) (drop-of-length-le p h)
-
-spread-below : (xs : List ℕ) (k : ℕ) (l : List ℕ) (i : ℕ) → i < k → getD (spread xs k l) i 0 ≡ getD l i 0
-unfolding spread
-spread-below [] k l i h = refl
-spread-below (x ∷ xs) k l i h = spread-below xs (k + 8) (set l k x) i (omega arith) ∙ getD-set-other l k i x 0 (omega arith)
-
-spread-at : (xs : List ℕ) (k : ℕ) (l : List ℕ) (j : ℕ) → j < length xs → k + 8 * j < length l → getD (spread xs k l) (k + 8 * j) 0 ≡ getD xs j 0
-unfolding spread
-spread-at [] k l j h r = absurd (not-suc-le-zero h)
-spread-at (x ∷ xs) k l zero h r =
-    ap (λ (i : ℕ). getD (spread xs (k + 8) (set l k x)) i 0) (add-zero k)
-    ∙ spread-below xs (k + 8) (set l k x) k (omega arith) ∙ getD-set-same l k x 0 (omega arith)
-spread-at (x ∷ xs) k l (suc j) h r =
-    ap (λ (i : ℕ). getD (spread xs (k + 8) (set l k x)) i 0) (omega arith)
-    ∙ spread-at xs (k + 8) (set l k x) j (le-of-suc-le-suc h) (omega (arith, length-set l k x))
-
-spread-other : (xs : List ℕ) (k : ℕ) (l : List ℕ) (i : ℕ) → ((j : ℕ) → i ≡ k + 8 * j → ⊥) → getD (spread xs k l) i 0 ≡ getD l i 0
-unfolding spread
-spread-other [] k l i f = refl
-spread-other (x ∷ xs) k l i f =
-    spread-other xs (k + 8) (set l k x) i (λ j e. f (suc j) (omega arith))
-    ∙ getD-set-other l k i x 0 (λ e. f 0 (omega arith))
+use Rattle.reed_solomon.proofs.Spread.{spread-length, spread-below, spread-at, spread-other}
 
 -- ---- the eight writes: the parities of the words below n are written
 

@@ -1,5 +1,6 @@
 // The plain form of the Reed-Solomon code, for a reader who holds it against 2.6.3.6.3: word by word, by long division with a register of 16 bytes.
 // The quick forms, with the same contracts, stand in crate reed_solomon (one word) and its module interleaving (a payload).
+use reed_solomon::interleaving;
 use reed_solomon::register;
 ghost use mathlib.Core.Path.{_≡_};
 ghost use mathlib.Core.List.{tail};
@@ -8,7 +9,7 @@ ghost use lib.ListN.{length, take};
 ghost use Rattle.field.specs.Field.{times};
 ghost use Rattle.division.specs.Register.{step};
 ghost use Rattle.reed_solomon.specs.Code.{generator, parity, isCodeword, lengthened};
-ghost use Rattle.reed_solomon.specs.Payload.{everyEighth, codedPayload, areCodewords};
+ghost use Rattle.reed_solomon.specs.Payload.{codedPayload, areCodewords};
 ghost use Rattle.plain_reed_solomon.specs.Word.{withParity};
 
 // The 16 parity bytes of some data: what a register of zeros holds after them.
@@ -76,7 +77,7 @@ pub fn are_codewords(payload: &[u8]) -> bool
     }
     let mut k = 0;
     while k < 8 {
-        let word = gathered(payload, k);
+        let word = interleaving::gathered(payload, k);
         if !is_codeword(&word) {
             return false;
         }
@@ -85,26 +86,12 @@ pub fn are_codewords(payload: &[u8]) -> bool
     true
 }
 
-// Word k: every eighth byte.
-fn gathered(payload: &[u8], k: usize) -> [u8; 255]
-    requires { ⌜ (k < 8) × (length (now payload) ≡ 2040) ⌝ }
-    ensures { λ r. ⌜ r ≡ everyEighth 255 k (now (payload .entry)) ⌝ }
-{
-    let mut word = [0u8; 255];
-    let mut i = 0;
-    while i < 255 {
-        word[i] = payload[k + 8 * i];
-        i += 1;
-    }
-    word
-}
-
 // Writes the parity of word k.
 fn write_word(payload: &mut [u8], k: usize)
     requires { ⌜ (k < 8) × (length (now payload) ≡ 2040) ⌝ }
     ensures { λ _. ⌜ now (payload .exit) ≡ withParity k (now (payload .entry)) ⌝ }
 {
-    let word = gathered(payload, k);
+    let word = interleaving::gathered(payload, k);
     let parity = parity_of(&word[..239]);
     let mut j = 0;
     while j < 16 {

@@ -17,9 +17,10 @@ use Rattle.division.specs.Division.{plus}
 use Rattle.division.proofs.Register.{plus-zero-eq, plus-length}
 use Rattle.division.proofs.Linear.{remainder-plus}
 use Rattle.reed_solomon.specs.Code.{generator}
+use Rattle.reed_solomon.specs.Roots.{locator, terms}
 use Rattle.reed_solomon.proofs.Laws.{Codeword, codeword-length}
-use Rattle.reed_solomon.proofs.Roots.{plus-bytes, terms, codeword-terms}
-use Rattle.reed_solomon.proofs.Places.{locator, locator-other, power-pos, takenOut, taken-length, taken-bytes, diff-lt, taken-terms}
+use Rattle.reed_solomon.proofs.Roots.{plus-bytes, codeword-terms}
+use Rattle.reed_solomon.proofs.Places.{locator-other, power-pos, takenOut, taken-length, taken-bytes, diff-lt, taken-terms}
 use Rattle.reed_solomon.proofs.Places.{filled, filled-le, weight, weight-less, AllZero}
 
 -- all places are 0, or one is not
@@ -39,7 +40,7 @@ weight-none (suc x ∷ d) h = absurd (omega arith)
 
 -- ---- one place alone
 
-zero-of : (x y : ℕ) → x < 256 → y < 256 → times x y ≡ 0 → (y ≡ 0 → ⊥) → x ≡ 0
+pub zero-of : (x y : ℕ) → x < 256 → y < 256 → times x y ≡ 0 → (y ≡ 0 → ⊥) → x ≡ 0
 zero-of zero y hx hy e h = refl
 zero-of (suc x) y hx hy e h = absurd (h (no-zero-divisors (suc x) y (zero-lt-suc x) hx hy e))
 
@@ -73,7 +74,7 @@ terms-behind u (x ∷ p) r z =
     ap (λ (y : ℕ). bitXor (times y (power (u * length (p ++ r)))) (terms u (p ++ r))) (z .0)
     ∙ ap (λ (y : ℕ). bitXor y (terms u (p ++ r))) (zero-times (power (u * length (p ++ r)))) ∙ terms-behind u p r (z .1)
 
-terms-none : (u : ℕ) (q : List ℕ) → AllZero q → terms u q ≡ 0
+pub terms-none : (u : ℕ) (q : List ℕ) → AllZero q → terms u q ≡ 0
 unfolding terms
 terms-none u [] z = refl
 terms-none u (x ∷ q) z =
@@ -126,7 +127,7 @@ all-zero (suc t) b d l h w s =
 
 -- ---- codewords
 
-zeros-of : (d : List ℕ) → AllZero d → d ≡ zeros (length d)
+pub zeros-of : (d : List ℕ) → AllZero d → d ≡ zeros (length d)
 zeros-of [] z = refl
 zeros-of (x ∷ d) z = ap₂ (λ (h : ℕ) (t : List ℕ). h ∷ t) (z .0) (zeros-of d (z .1))
 

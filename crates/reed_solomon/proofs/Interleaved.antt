@@ -1,4 +1,4 @@
--- The eight words of a payload: all of them are codewords exactly where the payload is its data, coded.
+-- The eight words of a payload: all of them are codewords exactly where the payload is its data, coded. And of bytes the coded payload is bytes.
 use mathlib.Core.Path.{_≡_, refl, sym, ap, ap₂, _∙_, subst}
 use mathlib.Core.Logic.{⊎-elim}
 use mathlib.Core.Bool.{true}
@@ -10,12 +10,13 @@ use lib.Dec.{lit<, eqb}
 use borrow.Author.Tests.{eq-eqb, eqb-true}
 use lib.ListN.{length, getD, take, length-append, List·getD-append}
 use lib.Seq.{ext-getD, length-take-le, getD-take, getD-append-add, take-at}
-use Rattle.basics.specs.Lists.{entries, allBelow}
+use Rattle.basics.specs.Lists.{Bytes, entries, allBelow}
 use Rattle.basics.proofs.Tests.{lt-or-ge, both-true, left-true, right-true, below-true, all-below}
-use Rattle.basics.proofs.Lists.{entries-length, entries-at}
+use Rattle.basics.proofs.Lists.{bytes-append, byte-at, bytes-entries, entries-length, entries-at}
 use Rattle.reed_solomon.specs.Code.{parity, isCodeword}
 use Rattle.reed_solomon.specs.Payload.{everyEighth, parityByte, codedPayload, areCodewords}
 use Rattle.reed_solomon.proofs.Laws.{Codeword, codeword-true, true-codeword, lengthened-whole, by-places, at-place}
+use Rattle.reed_solomon.proofs.Roots.{parity-bytes}
 
 -- ---- every eighth byte, read
 
@@ -35,6 +36,11 @@ unfolding everyEighth
 take-eighth zero m k l h = refl
 take-eighth (suc n) zero k l h = absurd (not-suc-le-zero h)
 take-eighth (suc n) (suc m) k l h = ap (λ (t : List ℕ). getD l k 0 ∷ t) (take-eighth n m (k + 8) l (le-of-suc-le-suc h))
+
+pub eighth-bytes : (n k : ℕ) (l : List ℕ) → Bytes l → Bytes (everyEighth n k l)
+unfolding everyEighth
+eighth-bytes zero k l h = tt
+eighth-bytes (suc n) k l h = (byte-at l h k, eighth-bytes n (k + 8) l h)
 
 -- two lists with the same bytes before index 1,912 have the same data
 pub eighth-same : (k : ℕ) (l t : List ℕ) → k < 8 → ((i : ℕ) → i < 1912 → getD l i 0 ≡ getD t i 0) → everyEighth 239 k l ≡ everyEighth 239 k t
@@ -66,6 +72,15 @@ module _ (message : List ℕ) (long : length message ≡ 1912) where
       ap (λ (n : ℕ). getD (message ++ entries (parityByte message) 0 128) (n + q) 0) (sym long)
       ∙ getD-append-add message (entries (parityByte message) 0 128) q 0
       ∙ entries-at (parityByte message) 0 128 q h ∙ ap (parityByte message) (zero-add q)
+
+pub coded-bytes : (message : List ℕ) → Bytes message → Bytes (codedPayload message)
+unfolding codedPayload parityByte
+coded-bytes message h =
+    bytes-append message (entries (parityByte message) 0 128) h
+    (bytes-entries (parityByte message) 0 128
+    (λ k l.
+    let word = everyEighth 239 (k % 8) message in
+    byte-at (parity word) (parity-bytes word (eighth-bytes 239 (k % 8) message h)) (k / 8)))
 
 -- a payload of 2,040 bytes is its data, coded, where each parity byte is that of its word
 pub coded-by-places : (l : List ℕ) (message : List ℕ) → length l ≡ 2040 → length message ≡ 1912

@@ -17,7 +17,7 @@ use Rattle.division.specs.Division.{plus, remainder}
 use Rattle.division.specs.Register.{step, feed}
 use Rattle.division.proofs.Register.{step-length, feed-length, feed-turn, feed-end, check-feed, word-remainder, plus-self, plus-zero-eq, check-zeros}
 use Rattle.division.proofs.Linear.{check-plus}
-use Rattle.reed_solomon.specs.Code.{generator, parity, isCodeword, lengthened}
+use Rattle.reed_solomon.specs.Code.{generator, parity, remainderOf, isCodeword, lengthened}
 use Rattle.reed_solomon.proofs.Factors.{generator-is}
 
 pub generator-length : length (tail generator) ≡ 16
@@ -75,27 +75,27 @@ parity-plus m n e = check-plus times times-xor-left (tail generator) m n e
 
 -- what the test says of a word
 unfoldable pub Codeword : List ℕ → Type 0
-Codeword word = (length word ≡ 255) × (remainder times (tail generator) 239 word ≡ zeros 16)
+Codeword word = (length word ≡ 255) × (remainderOf word ≡ zeros 16)
 
 pub codeword-true : (word : List ℕ) → Codeword word → isCodeword word ≡ true
 unfolding Codeword isCodeword
 codeword-true word c =
-    both-true (eqb (length word) 255) (same (remainder times (tail generator) 239 word) (zeros 16)) (eq-eqb (length word) 255 (c .0))
+    both-true (eqb (length word) 255) (same (remainderOf word) (zeros 16)) (eq-eqb (length word) 255 (c .0))
     (subst (λ (l : List ℕ). same l (zeros 16) ≡ true) (sym (c .1)) (same-self (zeros 16)))
 
 pub true-codeword : (word : List ℕ) → isCodeword word ≡ true → Codeword word
 unfolding Codeword isCodeword
 true-codeword word e =
     let long = eqb (length word) 255 in
-    let none = same (remainder times (tail generator) 239 word) (zeros 16) in
-    (eqb-true (length word) 255 (left-true long none e), same-true (remainder times (tail generator) 239 word) (zeros 16) (right-true long none e))
+    let none = same (remainderOf word) (zeros 16) in
+    (eqb-true (length word) 255 (left-true long none e), same-true (remainderOf word) (zeros 16) (right-true long none e))
 
 pub codeword-length : (word : List ℕ) → Codeword word → length word ≡ 255
 unfolding Codeword
 codeword-length word c = c .0
 
 module _ (m p : List ℕ) (hm : length m ≡ 239) (hp : length p ≡ 16) where
-  divided : remainder times (tail generator) 239 (m ++ p) ≡ plus (parity m) p
+  pub divided : remainderOf (m ++ p) ≡ plus (parity m) p
   unfolding parity
   divided =
       ap (λ (n : ℕ). remainder times (tail generator) n (m ++ p)) (sym hm)
@@ -121,21 +121,21 @@ unfolding lengthened
 lengthened-whole word e = ap (λ (n : ℕ). zeros (255 - n) ++ word) e
 
 module _ (word : List ℕ) (n : ℕ) (e : n + 16 ≡ length word) (h : length word ≤ 255) where
-  abbrev front : List ℕ
+  abbrev pub front : List ℕ
   front = zeros (255 - length word) ++ take n word
 
-  parts : lengthened word ≡ front ++ drop n word
+  pub parts : lengthened word ≡ front ++ drop n word
   unfolding lengthened
   parts =
       ap (λ (l : List ℕ). zeros (255 - length word) ++ l) (sym (take-append-drop n word))
       ∙ sym (append-assoc (zeros (255 - length word)) (take n word) (drop n word))
 
-  front-length : length front ≡ 239
+  pub front-length : length front ≡ 239
   front-length =
       length-append (zeros (255 - length word)) (take n word)
       ∙ ap₂ (λ (a b : ℕ). a + b) (zeros-length (255 - length word)) (length-take-le n word (omega arith)) ∙ omega arith
 
-  back-length : length (drop n word) ≡ 16
+  pub back-length : length (drop n word) ≡ 16
   back-length = length-drop n word ∙ omega arith
 
   pub shorter-codeword : parity (take n word) ≡ drop n word → Codeword (lengthened word)

@@ -5,4 +5,6 @@ pub mod Roots
 pub mod Places
 pub mod Distance
 pub mod Interleaved
+pub mod Spread
+pub mod Remainders
 mod Rows

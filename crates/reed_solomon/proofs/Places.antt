@@ -17,14 +17,12 @@ use Rattle.field.proofs.Laws.{times-xor-left, times-xor-right, times-lt, times-
 use Rattle.field.proofs.Laws.{two-times, power-lt, power-add, power-round}
 use Rattle.field.proofs.Powers.{doublings, powers, power-at, no-zero-divisors}
 use Rattle.basics.specs.Lists.{Bytes}
-use Rattle.reed_solomon.proofs.Roots.{terms, terms-lt}
+use Rattle.reed_solomon.specs.Roots.{locator, terms}
+use Rattle.reed_solomon.proofs.Roots.{terms-lt}
 
 -- ---- the places have different numbers: 2^(11 n) for n from 0 to 254
 
-abbrev pub locator : ℕ → ℕ
-locator n = power (11 * n)
-
-pos-or-zero : (x : ℕ) → (x ≡ 0 → ⊥) → 0 < x
+pub pos-or-zero : (x : ℕ) → (x ≡ 0 → ⊥) → 0 < x
 pos-or-zero zero h = absurd (h refl)
 pos-or-zero (suc x) h = zero-lt-suc x
 
@@ -123,7 +121,7 @@ pub filled-le : (x : ℕ) → filled x ≤ 1
 filled-le zero = lib.Dec.lit≤ tt
 filled-le (suc x) = lib.Dec.lit≤ tt
 
-filled-times : (c y : ℕ) → filled (times c y) ≤ filled c
+pub filled-times : (c y : ℕ) → filled (times c y) ≤ filled c
 filled-times zero y = native.Mathlib.Nat.le-of-eq (ap filled (zero-times y))
 filled-times (suc c) y = filled-le (times (suc c) y)
 

@@ -1,7 +1,7 @@
--- A codeword is 0 at each root of the generator.
-use mathlib.Core.Path.{_≡_, refl, sym, ap, _∙_}
+-- Of bytes the remainder and the parity are bytes, and a codeword is 0 at each root of the generator.
+use mathlib.Core.Path.{_≡_, refl, sym, ap, _∙_, subst}
 use mathlib.Core.Bool.{Bool}
-use mathlib.Core.List.{List, [], _∷_, tail}
+use mathlib.Core.List.{List, [], _∷_, _++_, tail}
 use Prim.Native.Nat.{ℕ, zero, suc, _+_, _*_, _≤_, _<_}
 use native.Mathlib.Nat.{le-of-suc-le-suc, not-suc-le-zero, mul-zero, mul-suc, add-comm, le-of-eq}
 use native.Mathlib.Omega.{arith}
@@ -15,16 +15,14 @@ use Rattle.basics.specs.Lists.{allBelow}
 use Rattle.basics.proofs.Tests.{below}
 use Rattle.field.proofs.Laws.{times-xor-left, times-xor-right, times-lt, times-assoc, times-one, zero-times, times-zero, power-lt, power-add}
 use Rattle.basics.specs.Lists.{zeros, Bytes}
-use Rattle.division.specs.Division.{plus, scale, remainder}
+use Rattle.basics.proofs.Lists.{zeros-bytes, bytes-append}
+use Rattle.division.specs.Division.{plus, scale, remainder, check}
 use Rattle.division.proofs.Register.{scale-length}
 use Rattle.division.proofs.Identity.{plus-length-le}
+use Rattle.reed_solomon.specs.Code.{generator, parity}
+use Rattle.reed_solomon.specs.Roots.{terms, value}
 use Rattle.reed_solomon.proofs.Factors.{coefficients, coefficients-are-bytes, rootAt, root-is, generator-is}
 use Rattle.reed_solomon.proofs.Laws.{Codeword}
-
--- the value at x of a polynomial whose coefficients before those of the list have the value a
-unfoldable pub value : ℕ → ℕ → List ℕ → ℕ
-value x a [] = a
-value x a (c ∷ p) = value x (bitXor (times a x) c) p
 
 pub plus-bytes : (xs ys : List ℕ) → Bytes xs → Bytes ys → Bytes (plus xs ys)
 unfolding plus
@@ -32,10 +30,29 @@ plus-bytes [] ys h k = k
 plus-bytes (x ∷ xs) [] h k = h
 plus-bytes (x ∷ xs) (y ∷ ys) h k = (xor-lt 8 x y (h .0) (k .0), plus-bytes xs ys (h .1) (k .1))
 
-scale-bytes : (c : ℕ) (xs : List ℕ) → Bytes xs → Bytes (scale times c xs)
+pub scale-bytes : (c : ℕ) (xs : List ℕ) → Bytes xs → Bytes (scale times c xs)
 unfolding scale
 scale-bytes c [] h = tt
 scale-bytes c (x ∷ xs) h = (times-lt c x (h .0), scale-bytes c xs (h .1))
+
+pub remainder-bytes : (g : List ℕ) (n : ℕ) (xs : List ℕ) → Bytes g → Bytes xs → Bytes (remainder times g n xs)
+unfolding remainder
+remainder-bytes g zero xs hg h = h
+remainder-bytes g (suc n) [] hg h = tt
+remainder-bytes g (suc n) (c ∷ xs) hg h =
+    let s = scale times c g in
+    remainder-bytes g n (plus s xs) hg (plus-bytes s xs (scale-bytes c g hg) (h .1))
+
+generator-bytes : Bytes (tail generator)
+generator-bytes = subst (λ (g : List ℕ). Bytes (tail g)) (sym generator-is) coefficients-are-bytes
+
+pub parity-bytes : (message : List ℕ) → Bytes message → Bytes (parity message)
+unfolding parity check
+parity-bytes message h =
+    let n = length (tail generator) in
+    remainder-bytes (tail generator) (length message) (message ++ zeros n) generator-bytes (bytes-append message (zeros n) h (zeros-bytes n))
+
+-- ---- the value of a polynomial
 
 -- a shorter list of value 0 can be taken off in front
 value-plus : (x a b : ℕ) (p q : List ℕ) → value x a p ≡ 0 → length p ≤ length q → value x (bitXor a b) (plus p q) ≡ value x b q
@@ -55,7 +72,7 @@ value-scale x c a (u ∷ p) hx hc ha h =
     ∙ value-scale x c (bitXor (times a x) u) p hx hc (xor-lt 8 (times a x) u (times-lt a x hx) (h .0)) (h .1)
 
 -- long division keeps the value at a root of the divisor
-value-remainder : (x : ℕ) (g : List ℕ) → x < 256 → Bytes g → value x 1 g ≡ 0 → (n : ℕ) (xs : List ℕ) → Bytes xs → n + length g ≤ length xs
+pub value-remainder : (x : ℕ) (g : List ℕ) → x < 256 → Bytes g → value x 1 g ≡ 0 → (n : ℕ) (xs : List ℕ) → Bytes xs → n + length g ≤ length xs
     → value x 0 (remainder times g n xs) ≡ value x 0 xs
 unfolding remainder plus scale value
 value-remainder x g hx hg root zero xs h l = refl
@@ -98,17 +115,12 @@ codeword-root w hw c i h =
 
 -- ---- the value as a sum of terms
 
--- the sum of c times 2^(u n), over the coefficients c with n coefficients behind
-unfoldable pub terms : ℕ → List ℕ → ℕ
-terms u [] = 0
-terms u (c ∷ p) = bitXor (times c (power (u * length p))) (terms u p)
-
 pub terms-lt : (u : ℕ) (p : List ℕ) → terms u p < 256
 unfolding terms
 terms-lt u [] = lit< tt
 terms-lt u (c ∷ p) = xor-lt 8 (times c (power (u * length p))) (terms u p) (times-lt c (power (u * length p)) (power-lt (u * length p))) (terms-lt u p)
 
-value-terms : (u a : ℕ) (p : List ℕ) → a < 256 → Bytes p → value (power u) a p ≡ bitXor (times a (power (u * length p))) (terms u p)
+pub value-terms : (u a : ℕ) (p : List ℕ) → a < 256 → Bytes p → value (power u) a p ≡ bitXor (times a (power (u * length p))) (terms u p)
 unfolding value terms power
 value-terms u a [] ha h = sym (xor-zero-r (times a (power (u * 0))) ∙ ap (λ (n : ℕ). times a (power n)) (mul-zero u) ∙ times-one a ha)
 value-terms u a (c ∷ p) ha h =

@@ -1,25 +1,24 @@
 -- The rows of a payload: word k's bytes in them are every eighth byte, so the registers fed with them hold the payload's parity bytes.
-use mathlib.Core.Path.{_≡_, sym, ap, _∙_, subst}
+use mathlib.Core.Path.{_≡_, sym, ap, _∙_}
 use mathlib.Core.List.{List, _++_, append-nil}
 use Prim.Native.Nat.{ℕ, _+_, _*_, _/_, _%_, _≤_, _<_}
 use native.Mathlib.Nat.{mod-lt, zero-add, add-comm}
 use native.Mathlib.Omega.{arith}
 use lib.Dec.{lit<}
-use lib.ListN.{length, getD, take, drop, drop-of-length-le, take-append-drop, length-map}
-use lib.Seq.{ext-getD, length-take-le, drop-at}
-use Rattle.basics.specs.Lists.{Bytes, entries, same}
+use lib.ListN.{length, getD, take, drop-of-length-le, length-map}
+use lib.Seq.{ext-getD}
+use Rattle.basics.specs.Lists.{Bytes, entries}
 use Rattle.basics.specs.Numbers.{numberAt}
 use Rattle.basics.proofs.Lists.{entries-length, entries-at}
 use Rattle.basics.proofs.Numbers.{byteAt, number-byte}
-use Rattle.basics.proofs.Tests.{is-same}
 use Rattle.lent.specs.Written.{written}
 use Rattle.lent.specs.Numbers.{bytesOf}
 use Rattle.lent.proofs.Bytes.{bytes-length, bytes-at}
 use Rattle.reed_solomon.specs.Code.{parity}
 use Rattle.reed_solomon.proofs.Registers.{wordIn, word-at, registersOf, registers-length, registers-word}
-use Rattle.reed_solomon.specs.Payload.{everyEighth, parityByte, codedPayload, areCodewords}
+use Rattle.reed_solomon.specs.Payload.{everyEighth, parityByte, codedPayload}
 use Rattle.reed_solomon.specs.Rows.{rows}
-use Rattle.reed_solomon.proofs.Interleaved.{eighth-length, eighth-at, Codewords, codewords-true, true-codewords, codewords-coded, coded-codewords}
+use Rattle.reed_solomon.proofs.Interleaved.{eighth-length, eighth-at}
 
 module _ (message : List ℕ) where
   pub rows-length : length (rows message) ≡ 239
@@ -63,20 +62,8 @@ module _ (l : List ℕ) (long : length l ≡ 2040) where
   abbrev behind : List ℕ
   behind = entries (parityByte (take 1912 l)) 0 128
 
-  short : length (take 1912 l) ≡ 1912
-  short = length-take-le 1912 l (omega arith)
-
   pub coded-written : written l 1912 behind ≡ codedPayload (take 1912 l)
   unfolding written codedPayload
   coded-written =
       let all : length l ≤ 1912 + length behind = omega (arith, entries-length (parityByte (take 1912 l)) 0 128) in
       ap (λ (t : List ℕ). take 1912 l ++ behind ++ t) (drop-of-length-le l all) ∙ append-nil (take 1912 l ++ behind)
-
-  pub codewords-same : areCodewords l ≡ same (drop 1912 l) behind
-  unfolding codedPayload
-  codewords-same =
-      is-same (areCodewords l) (drop 1912 l) behind
-      (λ t. ap (drop 1912) (codewords-coded l (true-codewords l t)) ∙ drop-at (take 1912 l) behind 1912 short)
-      (λ q.
-      let whole : codedPayload (take 1912 l) ≡ l = ap (λ (t : List ℕ). take 1912 l ++ t) (sym q) ∙ take-append-drop 1912 l in
-      codewords-true l (subst Codewords whole (coded-codewords (take 1912 l) short)))

@@ -21,9 +21,13 @@ generator = factors 16 120
 unfoldable pub parity : List ℕ → List ℕ
 parity message = check times (tail generator) message
 
+-- what division by the generator leaves of a word of 255 bytes
+abbrev pub remainderOf : List ℕ → List ℕ
+remainderOf word = remainder times (tail generator) 239 word
+
 -- whether a word is a codeword: 255 bytes that the generator divides
 unfoldable pub isCodeword : List ℕ → Bool
-isCodeword word = eqb (length word) 255 && same (remainder times (tail generator) 239 word) (zeros 16)
+isCodeword word = eqb (length word) 255 && same (remainderOf word) (zeros 16)
 
 -- a shorter word with the zeros in front that are not sent, 223 of them for the header (2.6.3.6.2)
 unfoldable pub lengthened : List ℕ → List ℕ

@@ -3,13 +3,14 @@ use crate::register;
 use lent::numbers;
 ghost use mathlib.Core.Path.{_≡_};
 ghost use mathlib.Core.List.{tail};
+ghost use Prim.Native.Nat.{_<_};
 ghost use lib.ListN.{length, take};
 ghost use Rattle.basics.specs.Lists.{zeros, entries};
 ghost use Rattle.field.specs.EachByte.{timesEach};
 ghost use Rattle.division.specs.Register.{feed};
 ghost use Rattle.reed_solomon.specs.Code.{generator};
-ghost use Rattle.reed_solomon.specs.Payload.{parityByte, codedPayload, areCodewords};
-ghost use Rattle.reed_solomon.specs.Rows.{rows};
+ghost use Rattle.reed_solomon.specs.Payload.{everyEighth, parityByte, codedPayload};
+ghost use Rattle.reed_solomon.specs.Rows.{rows, remainderByte};
 
 // Writes the 128 parity bytes of the eight words behind the 1,912 bytes of data.
 pub fn write_parity(payload: &mut [u8])
@@ -20,15 +21,33 @@ pub fn write_parity(payload: &mut [u8])
     lent::write_at(payload, 1912, &parity);
 }
 
-// Whether all eight words are codewords.
-pub fn are_codewords(payload: &[u8]) -> bool
-    ensures { λ r. ⌜ r ≡ areCodewords (now (payload .entry)) ⌝ }
+// What division by the generator leaves of the eight words, interleaved as they are: zeros where all of them are codewords.
+pub fn remainders(payload: &[u8]) -> [u8; 128]
+    requires { ⌜ length (now payload) ≡ 2040 ⌝ }
+    ensures { λ r. ⌜ r ≡ entries (remainderByte (now (payload .entry))) 0 128 ⌝ }
 {
-    if payload.len() != 2040 {
-        return false;
-    }
     let parity = parity_bytes(&payload[..1912]);
-    lent::are_same(&payload[1912..], &parity)
+    let mut remainders = [0u8; 128];
+    let mut i = 0;
+    while i < 128 {
+        remainders[i] = parity[i] ^ payload[1912 + i];
+        i += 1;
+    }
+    remainders
+}
+
+// Word k: every eighth byte.
+pub fn gathered(payload: &[u8], k: usize) -> [u8; 255]
+    requires { ⌜ (k < 8) × (length (now payload) ≡ 2040) ⌝ }
+    ensures { λ r. ⌜ r ≡ everyEighth 255 k (now (payload .entry)) ⌝ }
+{
+    let mut word = [0u8; 255];
+    let mut i = 0;
+    while i < 255 {
+        word[i] = payload[k + 8 * i];
+        i += 1;
+    }
+    word
 }
 
 // The parity bytes of the eight words of 1,912 bytes of data.

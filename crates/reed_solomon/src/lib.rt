@@ -9,7 +9,7 @@ ghost use lib.ListN.{length};
 ghost use Rattle.basics.specs.Lists.{zeros};
 ghost use Rattle.field.specs.EachByte.{timesEach};
 ghost use Rattle.division.specs.Register.{feed};
-ghost use Rattle.reed_solomon.specs.Code.{generator, parity, isCodeword, lengthened};
+ghost use Rattle.reed_solomon.specs.Code.{generator, parity, remainderOf, lengthened};
 
 // The 16 parity bytes of some data.
 pub fn parity_of(message: &[u8]) -> [u8; 16]
@@ -39,15 +39,18 @@ fn feed(message: &[u8]) -> [u64; 16]
     registers
 }
 
-// Whether a word, with the zeros in front that are not sent, is a codeword.
-pub fn is_codeword(word: &[u8]) -> bool
-    requires { ⌜ 16 ≤ length (now word) ⌝ }
-    ensures { λ r. ⌜ r ≡ isCodeword (lengthened (now (word .entry))) ⌝ }
+// What division by the generator leaves of a word, with the zeros in front that are not sent: zeros of a codeword.
+pub fn remainder_of(word: &[u8]) -> [u8; 16]
+    requires { ⌜ (16 ≤ length (now word)) × (length (now word) ≤ 255) ⌝ }
+    ensures { λ r. ⌜ r ≡ remainderOf (lengthened (now (word .entry))) ⌝ }
 {
-    if 255 < word.len() {
-        return false;
-    }
     let end = word.len() - 16;
     let parity = parity_of(&word[..end]);
-    lent::are_same(&word[end..], &parity)
+    let mut remainder = [0u8; 16];
+    let mut j = 0;
+    while j < 16 {
+        remainder[j] = parity[j] ^ word[end + j];
+        j += 1;
+    }
+    remainder
 }

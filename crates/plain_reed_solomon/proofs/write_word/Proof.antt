@@ -8,10 +8,11 @@ use lib.ListN.{length, drop, take, length-set}
 use lib.Seq.{length-take-le}
 use Rattle.reed_solomon.specs.Code.{parity}
 use Rattle.reed_solomon.specs.Payload.{everyEighth}
-use Rattle.plain_reed_solomon.specs.Word.{spread, withParity}
+use Rattle.reed_solomon.specs.Rows.{spread}
+use Rattle.plain_reed_solomon.specs.Word.{withParity}
 use Rattle.reed_solomon.proofs.Laws.{parity-length}
 use Rattle.reed_solomon.proofs.Interleaved.{eighth-length, take-eighth}
-use Rattle.plain_reed_solomon.proofs.Writes.{spread-turn, spread-end}
+use Rattle.reed_solomon.proofs.Spread.{spread-turn, spread-end}
 use Rattle.plain_reed_solomon.proofs.write_word.Statement.{statement}
 use Rattle.plain_reed_solomon.proofs.write_word.Tie as tie
 

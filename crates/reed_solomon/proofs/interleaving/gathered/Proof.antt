@@ -5,10 +5,10 @@ use mathlib.Core.Path.{_≡_, sym}
 use Prim.Native.Nat.{_≤_, _-_}
 use lib.ListN.{length}
 use Rattle.basics.proofs.Fill.{Filled, filled-more, filled-all}
 use Rattle.reed_solomon.specs.Payload.{everyEighth}
 use Rattle.reed_solomon.proofs.Interleaved.{eighth-at, eighth-length}
-use Rattle.plain_reed_solomon.proofs.gathered.Statement.{statement}
-use Rattle.plain_reed_solomon.proofs.gathered.Tie as tie
+use Rattle.reed_solomon.proofs.interleaving.gathered.Statement.{statement}
+use Rattle.reed_solomon.proofs.interleaving.gathered.Tie as tie
 
 abbrev Inv-loop : tie.InvT-loop
 Inv-loop payload k word₀ i₀ word i = (i ≤ 255) × (length word ≡ 255) × Filled (everyEighth 255 k payload) i word
