@@ -1,0 +1,10 @@
+pub mod Differences
+pub mod Words
+pub mod Lengths
+pub mod Parts
+pub mod Columns
+pub mod Coded
+pub mod Clean
+pub mod Scrambled
+pub mod Laws
+pub mod Theorems

@@ -1,0 +1,4 @@
+pub mod Body
+pub mod Repairing
+pub mod NearPart
+pub mod Words
