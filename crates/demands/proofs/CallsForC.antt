@@ -20,6 +20,9 @@ use Rattle.sending.specs.declared.NextAnswer.the-variants as sending
 use Rattle.opening.specs.Opening.{openNumber}
 use Rattle.opening.specs.declared.OpenAnswer.{OpenAnswer}
 use Rattle.opening.specs.declared.OpenAnswer.the-variants as opening
+use Rattle.repairing.specs.Repairing.{repairNumber}
+use Rattle.repairing.specs.declared.RepairAnswer.{RepairAnswer}
+use Rattle.repairing.specs.declared.RepairAnswer.the-variants as repairing
 use Rattle.receiver.specs.Applying.{freshReceiver, applyNumber}
 use Rattle.receiver.specs.declared.ApplyAnswer.{ApplyAnswer}
 use Rattle.receiver.specs.declared.ApplyAnswer.the-variants as applying
@@ -30,9 +33,9 @@ use Rattle.flat.specs.Headers.{fieldsOf, headerOf}
 use Rattle.flat.specs.States.{senderOf, flatSender, receiverOf, flatReceiver}
 use Rattle.flat.specs.declared.states.FlatReceiver.{FlatReceiver}
 use Rattle.flat.specs.declared.states.FlatSender.{FlatSender}
-use Rattle.flat.specs.Answers.{flatPut, flatWaiting, flatNext, flatOpen, flatApply, flatCode, flatRead, flatEntry, flatPacket}
-use Rattle.taqwelim.specs.Calls.{FreshSenderCall, PutCall, WaitingCall, NextCall, FreshReceiverCall, OpenCall, ApplyCall, EntryCall, PacketCall}
-use Rattle.taqwelim.specs.Calls.{CodeCall, ReadCall, LevelCall}
+use Rattle.flat.specs.Answers.{flatPut, flatWaiting, flatNext, flatOpen, flatRepair, flatApply, flatCode, flatRead, flatEntry, flatPacket}
+use Rattle.taqwelim.specs.Calls.{FreshSenderCall, PutCall, WaitingCall, NextCall, FreshReceiverCall, OpenCall, RepairCall, ApplyCall, EntryCall}
+use Rattle.taqwelim.specs.Calls.{PacketCall, CodeCall, ReadCall, LevelCall}
 use Rattle.demands.specs.Demand1.{Demand1}
 use Rattle.demands.specs.CallsForC.{RefusesAs, EveryCallForC}
 use Rattle.demands.proofs.Outcomes.{never-refuses}
@@ -83,8 +86,12 @@ next-number given (sending.Sent sender kind) = refl
 next-number given (sending.Refused number) = refl
 
 open-number : (answer : OpenAnswer) → flatOpen answer .refusal ≡ openNumber answer
-open-number (opening.Opened header) = refl
+open-number (opening.Opened header repaired) = refl
 open-number (opening.Refused number) = refl
+
+repair-number : (answer : RepairAnswer) → flatRepair answer .refusal ≡ repairNumber answer
+repair-number (repairing.Repaired count) = refl
+repair-number (repairing.Refused number) = refl
 
 apply-number : (given : FlatReceiver) (answer : ApplyAnswer) → flatApply given answer .refusal ≡ applyNumber answer
 apply-number given (applying.Applied missed packets listed receiver) = refl
@@ -117,6 +124,10 @@ every-call-for-c-holds = record {
   open-frame = λ taps frame area.
       flat-holds (λ n. opening.Refused n) (every-call-holds .open-frame taps frame area) (λ n. refl) flatOpen (λ r. r .refusal) open-number
       (OpenCall taps frame area) (λ answer after o. record { answer = answer; outcome = o; flat = refl }) (λ r after o. (o .answer, (o .outcome, o .flat)));
+  repair = λ taps part scratch.
+      flat-holds (λ n. repairing.Refused n) (every-call-holds .repair taps part scratch) (λ n. refl) flatRepair (λ r. r .refusal) repair-number
+      (RepairCall taps part scratch) (λ answer after o. record { answer = answer; outcome = o; flat = refl })
+      (λ r after o. (o .answer, (o .outcome, o .flat)));
   apply = λ header area receiver hold list.
       flat-holds (λ n. applying.Refused n) (every-call-holds .apply (headerOf header) area (receiverOf receiver) hold list) (λ n. refl) (flatApply receiver)
       (λ r. r .refusal) (apply-number receiver) (λ answer after. ApplyCall header area receiver hold list answer (after .0) (after .1))

@@ -6,6 +6,7 @@ use mathlib.Core.List.{List, [], _∷_}
 use Prim.Native.Nat.{ℕ, _+_, _≤_}
 use native.Mathlib.Omega.{arith}
 use lib.Dec.{eqb}
+use denote.Ref.{RefT, now}
 use lib.IntN.{ℤ, pos, negℤ}
 use lib.ListN.{length}
 use Rattle.basics.specs.Sizes.{queueSize, mostPacket}
@@ -23,6 +24,9 @@ use Rattle.header_reading.specs.declared.ReadAnswer.{ReadAnswer}
 use Rattle.header_reading.specs.declared.ReadAnswer.the-variants as reading
 use Rattle.fast_channel.specs.Level.{LevelOutcome}
 use Rattle.opening.specs.Opening.{openTable, OpenOutcome}
+use Rattle.repairing.specs.Repairing.{repairTable, RepairOutcome, shownBytes, shownPlace}
+use Rattle.repairing.specs.declared.RepairAnswer.{RepairAnswer}
+use Rattle.repairing.specs.declared.RepairAnswer.the-variants as repairing
 use Rattle.opening.specs.declared.OpenAnswer.{OpenAnswer}
 use Rattle.opening.specs.declared.OpenAnswer.the-variants as opening
 use Rattle.marks.specs.Queue.{isRingWhole}
@@ -52,13 +56,14 @@ use Rattle.flat.specs.declared.FlatPut.{FlatPut}
 use Rattle.flat.specs.declared.FlatWaiting.{FlatWaiting}
 use Rattle.flat.specs.declared.FlatNext.{FlatNext}
 use Rattle.flat.specs.declared.FlatOpen.{FlatOpen}
+use Rattle.flat.specs.declared.FlatRepair.{FlatRepair}
 use Rattle.flat.specs.declared.FlatApply.{FlatApply}
 use Rattle.flat.specs.declared.FlatCode.{FlatCode}
 use Rattle.flat.specs.declared.FlatRead.{FlatRead}
 use Rattle.flat.specs.declared.FlatEntry.{FlatEntry}
 use Rattle.flat.specs.declared.FlatPacket.{FlatPacket}
-use Rattle.taqwelim.specs.Calls.{FreshSenderCall, PutCall, WaitingCall, NextCall, FreshReceiverCall, OpenCall, ApplyCall, EntryCall, PacketCall}
-use Rattle.taqwelim.specs.Calls.{CodeCall, ReadCall, LevelCall}
+use Rattle.taqwelim.specs.Calls.{FreshSenderCall, PutCall, WaitingCall, NextCall, FreshReceiverCall, OpenCall, RepairCall, ApplyCall, EntryCall}
+use Rattle.taqwelim.specs.Calls.{PacketCall, CodeCall, ReadCall, LevelCall}
 use Rattle.demands.specs.Demand1.{Demand1}
 use Rattle.demands.proofs.Outcomes.{among, first-among}
 use Rattle.demands.proofs.Demand1.{every-call-holds}
@@ -73,7 +78,7 @@ module _ {A B : Type 0} {Meets : A → B → Type 0} {before : B} {numberOf : A 
       let refuses = subst (Refuses answer) e (demand .refused answer after o (λ z. ne (sym e ∙ z))) in
       (refuses, demand .refusal answer n after o refuses .1)
 
--- ---- the numbers of each call, in its order (01, "Refusal numbers"; 02, M-106)
+-- ---- the numbers of each call, in its order (01, "Refusal numbers"; 02, M-106 and M-101)
 
 pub numbers-of-put : (queue : List ℕ) (start used : ℕ) (packet : List ℕ) → numbersOf (putTable queue start used packet) ≡ 2 ∷ 3 ∷ 4 ∷ 5 ∷ []
 numbers-of-put queue start used packet = refl
@@ -87,6 +92,9 @@ numbers-of-next taps fields start used queue out = refl
 
 pub numbers-of-open : (taps : ℕ) (frame area : List ℕ) → numbersOf (openTable taps frame area) ≡ 1 ∷ 2 ∷ 7 ∷ 8 ∷ 9 ∷ 11 ∷ 12 ∷ 13 ∷ []
 numbers-of-open taps frame area = refl
+
+pub numbers-of-repair : (taps : ℕ) (part scratch : List ℕ) → numbersOf (repairTable taps part scratch) ≡ 1 ∷ 2 ∷ 8 ∷ 12 ∷ []
+numbers-of-repair taps part scratch = refl
 
 pub numbers-of-apply : (header : Header) (area : List ℕ) (receiver : Receiver) (hold list : List ℕ)
     → numbersOf (applyTable header area receiver hold list) ≡ 2 ∷ 3 ∷ 11 ∷ 14 ∷ 15 ∷ []
@@ -121,6 +129,19 @@ pub open-refused : (frame area : List ℕ) (answer : OpenAnswer) (after : List �
     → OpenOutcome 0 frame area answer after → (answer ≡ opening.Refused 1) × (after ≡ area)
 unfolding firstOf tapsAllowed
 open-refused frame area = first-given (every-call-holds .open-frame 0 frame area) 1 refl (λ z. omega arith)
+
+pub repair-refused : (part scratch : List ℕ) (answer : RepairAnswer) (after : List ℕ)
+    → RepairOutcome 0 part scratch answer after → (answer ≡ repairing.Refused 1) × (after ≡ scratch)
+unfolding firstOf tapsAllowed
+repair-refused part scratch = first-given (every-call-holds .repair 0 part scratch) 1 refl (λ z. omega arith)
+
+-- one part is shown, and after a refusal it is empty
+pub shown-none : (number : ℕ) (part scratch : RefT (List ℕ)) (r : List ℕ × (ℕ × ℕ))
+    → (r .0 ≡ shownBytes (repairing.Refused number) (now part) (now scratch)) × (r .1 ≡ shownPlace (repairing.Refused number) part scratch) → r .0 ≡ []
+unfolding shownBytes shownPlace
+shown-none number part scratch r o =
+    ap (λ (x : List ℕ × (ℕ × ℕ)). x .0)
+    (every-call-holds .shown (repairing.Refused number) part scratch .one-outcome r ([], part .ptr) tt tt o (refl, refl) .0)
 
 pub apply-refused : (header : Header) (receiver : Receiver) (hold list : List ℕ) (answer : ApplyAnswer) (after : List ℕ × List ℕ)
     → ApplyOutcome header [] receiver hold list answer (after .0) (after .1) → (answer ≡ applying.Refused 2) × (after ≡ (hold, list))
@@ -208,9 +229,14 @@ unfolding firstOf tapsAllowed
 c-next-refused fields sender queue out r queue′ out′ o =
     first-given (every-call-for-c-holds .next-frame 0 fields sender queue out) 1 refl (λ z. omega arith) r (queue′, out′) o .0 .1
 
-pub c-open-refused : (frame area : List ℕ) (r : FlatOpen) (after : List ℕ) → OpenCall 0 frame area r after → r ≡ record { header = noHeader; refusal = 1 }
+pub c-open-refused : (frame area : List ℕ) (r : FlatOpen) (after : List ℕ) → OpenCall 0 frame area r after → r ≡ record { header = noHeader; repaired = 0; refusal = 1 }
 unfolding firstOf tapsAllowed
 c-open-refused frame area r after o = first-given (every-call-for-c-holds .open-frame 0 frame area) 1 refl (λ z. omega arith) r after o .0 .1
+
+pub c-repair-refused : (part scratch : List ℕ) (r : FlatRepair) (after : List ℕ) → RepairCall 0 part scratch r after
+    → r ≡ record { repaired = 0; refusal = 1 }
+unfolding firstOf tapsAllowed
+c-repair-refused part scratch r after o = first-given (every-call-for-c-holds .repair 0 part scratch) 1 refl (λ z. omega arith) r after o .0 .1
 
 pub c-apply-refused : (header : FlatHeader) (receiver : FlatReceiver) (hold list : List ℕ) (r : FlatApply) (hold′ list′ : List ℕ)
     → ApplyCall header [] receiver hold list r hold′ list′ → r ≡ record { receiver = receiver; packets = 0; listed = 0; missed = 0; refusal = 2 }

@@ -1,6 +1,6 @@
 -- What follows from demand 2: each clause, and each way of one that says "exactly", is used to conclude something plain, so that none can go, or be halved,
 -- unseen.
-use mathlib.Core.Path.{_≡_, refl, sym, ap, _∙_}
+use mathlib.Core.Path.{_≡_, refl, sym, ap, _∙_, subst}
 use mathlib.Core.Bool.{Bool, true, false, cond, false≢true}
 use mathlib.Core.Option.{none, some}
 use mathlib.Core.List.{List, [], _∷_}
@@ -13,7 +13,7 @@ use borrow.Author.Tests.{eq-eqb}
 use Rattle.basics.specs.Lists.{zeros, Bytes, entries}
 use Rattle.basics.specs.Sizes.{queueSize}
 use Rattle.basics.specs.Numbers.{digit, number}
-use Rattle.basics.proofs.Lists.{zeros-length}
+use Rattle.basics.proofs.Lists.{zeros-length, zeros-bytes}
 use Rattle.lent.specs.Refusals.{firstOf}
 use Rattle.lent.proofs.Written.{written-whole}
 use Rattle.scrambler.specs.Scrambler.{tapsAllowed, sumBelow, bit, keyByte, scrambled}
@@ -27,9 +27,13 @@ use Rattle.header.specs.declared.Header.{Header}
 use Rattle.header_reading.specs.Reading.{headerOf, reservedIn, readRefusal, readHeader}
 use Rattle.header_reading.specs.declared.ReadAnswer.the-variants.{Read}
 use Rattle.frame.specs.Frame.{frameBytes, frameBytesWith}
+use Rattle.frame.proofs.Laws.{frame-length}
 use Rattle.opening.specs.Opening.{openRefusal, openedReserved, OpenOutcome}
+use Rattle.opening.specs.NearFrame.{NearFrame}
 use Rattle.opening.specs.declared.OpenAnswer.{OpenAnswer}
 use Rattle.opening.specs.declared.OpenAnswer.the-variants.{Opened}
+use Rattle.opening.proofs.NearFrame.{near-own}
+use Rattle.nearest.proofs.Nearness.{differences-self}
 use Rattle.link.specs.Link.{Piece, Queue, empty}
 use Rattle.link.specs.Store.{layout}
 use Rattle.marks.specs.Queue.{isRingWhole, waitingIn, packetCount, byteCount}
@@ -52,10 +56,6 @@ use Rattle.list.specs.Entries.{packetsRead}
 use Rattle.demands.specs.Cases.{idle}
 use Rattle.demands.specs.Demand2.{HoldsQueue}
 use Rattle.demands.proofs.Demand2.{demand2-holds}
-use Rattle.demands.proofs.Example.{same-bytes}
-
-zeros-bytes : (n : ℕ) → Bytes (zeros n)
-zeros-bytes = same-bytes 0 (omega arith)
 
 -- ---- the header
 
@@ -198,23 +198,28 @@ zeros-unread pieces e = no-zeros pieces (demand2-holds .area-exactly (zeros 1908
 
 -- ---- the frame
 
--- an IDLE frame that is built, whatever its reserved bits, is opened to its header
+-- an IDLE frame that is built, whatever its reserved bits, is opened to its header, and no byte of it is wrong
 pub idle-opened : (taps : ℕ) (reserved : ReservedBits) (before : List ℕ) (answer : OpenAnswer) (after : List ℕ) → tapsAllowed taps ≡ true → 1908 ≤ length before
-    → OpenOutcome taps (frameBytesWith taps reserved idle (zeros 1908)) before answer after → answer ≡ Opened idle
+    → OpenOutcome taps (frameBytesWith taps reserved idle (zeros 1908)) before answer after → answer ≡ Opened idle 0
 unfolding fieldsFit
 idle-opened taps reserved before answer after allowed room o =
-    demand2-holds .frame-back taps reserved idle (zeros 1908) before answer after allowed refl (zeros-length 1908) room o .0
+    let frame = frameBytesWith taps reserved idle (zeros 1908) in
+    demand2-holds .frame-back taps reserved idle (zeros 1908) frame before answer after allowed refl (zeros-length 1908) (zeros-bytes 1908) room
+    (near-own frame (frame-length reserved idle taps (zeros 1908) (zeros-length 1908))) o .0
+    ∙ ap (Opened idle) (differences-self frame)
 
--- two accepted frames that are opened to one header and one area, and have the same reserved bits, are one frame
-pub one-frame : (taps : ℕ) (a b before : List ℕ) (header : Header) (after : List ℕ) → Bytes a → Bytes b → length before ≡ 1908
-    → OpenOutcome taps a before (Opened header) after → OpenOutcome taps b before (Opened header) after
-    → openedReserved taps a ≡ openedReserved taps b → a ≡ b
-one-frame taps a b before header after are-a are-b long oa ob bits =
-    let fa = demand2-holds .frame-again taps a before header after are-a oa in
-    let fb = demand2-holds .frame-again taps b before header after are-b ob in
-    let area-a : after ≡ fa .0 = fa .1 .3 ∙ written-whole before (fa .0) (fa .1 .2 ∙ sym long) in
-    let area-b : after ≡ fb .0 = fb .1 .3 ∙ written-whole before (fb .0) (fb .1 .2 ∙ sym long) in
-    fa .1 .0 ∙ (λ j. frameBytesWith taps (bits j) header ((sym area-a ∙ area-b) j)) ∙ sym (fb .1 .0)
+-- two accepted frames that are opened to one header and one area, and have the same reserved bits, are near one frame
+pub one-frame : (taps : ℕ) (a b before : List ℕ) (header : Header) (n m : ℕ) (after : List ℕ) → length before ≡ 1908
+    → OpenOutcome taps a before (Opened header n) after → OpenOutcome taps b before (Opened header m) after
+    → openedReserved taps a ≡ openedReserved taps b → (frame : List ℕ) × (NearFrame a frame × NearFrame b frame)
+one-frame taps a b before header n m after long oa ob bits =
+    let fa = demand2-holds .frame-again taps a before header n after oa in
+    let fb = demand2-holds .frame-again taps b before header m after ob in
+    let area-a : after ≡ fa .0 = fa .1 .4 ∙ written-whole before (fa .0) (fa .1 .2 ∙ sym long) in
+    let area-b : after ≡ fb .0 = fb .1 .4 ∙ written-whole before (fb .0) (fb .1 .2 ∙ sym long) in
+    let same : frameBytesWith taps (openedReserved taps b) header (fb .0) ≡ frameBytesWith taps (openedReserved taps a) header (fa .0) =
+    λ j. frameBytesWith taps (sym bits j) header ((sym area-b ∙ area-a) j) in
+    (frameBytesWith taps (openedReserved taps a) header (fa .0), (fa .1 .0, subst (NearFrame b) same (fb .1 .0)))
 
 -- ---- next_frame
 
@@ -248,25 +253,26 @@ module _ (taps : ℕ) (fields : Fields) (sender : Sender) (queue out : List ℕ)
 pub zeros-refused : (taps : ℕ) (buffer : List ℕ) → openRefusal taps (zeros 2081) buffer ≡ 0 → ⊥
 unfolding frameBytesWith
 zeros-refused taps buffer z =
-    let f = demand2-holds .opens-exactly taps (zeros 2081) buffer (zeros-bytes 2081) .0 z .2 in
-    let begins = ap (λ (l : List ℕ). getD l 0 0) (f .coded) in
+    let f = demand2-holds .opens-exactly taps (zeros 2081) buffer .0 z .2 in
+    let begins = ap (λ (l : List ℕ). getD l 0 0) (f .near .preamble-same) in
     omega arith
 
 -- .. and what a fresh sender sends is opened, and so is the same frame with any reserved bits
 pub idle-accepted : (taps : ℕ) (reserved : ReservedBits) (fields : Fields) (buffer : List ℕ) → tapsAllowed taps ≡ true → fieldsFit fields ≡ true
-    → 1908 ≤ length buffer → Bytes (frameBytesWith taps reserved (firstHeader Idle fields) (zeros 1908))
-    → openRefusal taps (frameBytesWith taps reserved (firstHeader Idle fields) (zeros 1908)) buffer ≡ 0
-idle-accepted taps reserved fields buffer allowed fit room bytes =
-    demand2-holds .opens-exactly taps (frameBytesWith taps reserved (firstHeader Idle fields) (zeros 1908)) buffer bytes .1 (
+    → 1908 ≤ length buffer → openRefusal taps (frameBytesWith taps reserved (firstHeader Idle fields) (zeros 1908)) buffer ≡ 0
+idle-accepted taps reserved fields buffer allowed fit room =
+    demand2-holds .opens-exactly taps (frameBytesWith taps reserved (firstHeader Idle fields) (zeros 1908)) buffer .1 (
       allowed,
       room,
       record {
         reserved = reserved;
         header = firstHeader Idle fields;
         area = zeros 1908;
-        coded = refl;
+        near = near-own (frameBytesWith taps reserved (firstHeader Idle fields) (zeros 1908))
+            (frame-length reserved (firstHeader Idle fields) taps (zeros 1908) (zeros-length 1908));
         may-be-sent = fit;
         area-size = zeros-length 1908;
+        area-bytes = zeros-bytes 1908;
       },
     )
 

@@ -4,6 +4,7 @@ use mathlib.Core.Bool.{Bool, true, false, cond}
 use mathlib.Core.List.{List}
 use Prim.Native.Nat.{ℕ, _+_}
 use native.Mathlib.Omega.{arith}
+use denote.Ref.{now}
 use lib.Dec.{eqb}
 use lib.ListN.{length}
 use Rattle.lent.specs.Refusals.{firstOf}
@@ -14,6 +15,8 @@ use Rattle.header.specs.declared.CodeAnswer.the-variants as coding
 use Rattle.header_reading.specs.declared.ReadAnswer.the-variants as reading
 use Rattle.opening.specs.Opening.{openTable, openNumber, openRefusal, OpenOutcome}
 use Rattle.opening.specs.declared.OpenAnswer.the-variants as opening
+use Rattle.repairing.specs.Repairing.{repairTable, repairNumber, repairRefusal, RepairOutcome, shownBytes, shownPlace}
+use Rattle.repairing.specs.declared.RepairAnswer.the-variants as repairing
 use Rattle.sender.specs.Put.{putTable, putNumber, putRefusal, PutOutcome}
 use Rattle.sender.specs.Waiting.{waitingTable, waitingNumber, waitingRefusal, waitingAnswer, WaitingOutcome}
 use Rattle.sending.specs.Next.{nextTable, nextNumber, nextRefusal, NextOutcome}
@@ -56,7 +59,7 @@ module _ (list : List ℕ) (position : ℕ) where
       go false = refl
 
 pub every-call-holds : EveryCall
-unfolding putRefusal waitingRefusal waitingAnswer nextRefusal openRefusal applyRefusal entryRefusal entryAnswer codeRefusal readRefusal
+unfolding putRefusal waitingRefusal waitingAnswer nextRefusal openRefusal repairRefusal applyRefusal entryRefusal entryAnswer codeRefusal readRefusal
 every-call-holds = record {
   put = λ queue sender packet.
       let table = putTable queue (sender .start) (sender .used) packet in
@@ -72,6 +75,10 @@ every-call-holds = record {
       let table = openTable taps frame area in
       call-holds (OpenOutcome taps frame area) openNumber (λ n. opening.Refused n) (λ n. refl) _ refl (λ n e. let z : Never = cc in omega arith) table refl
       area _ (unwritten (firstOf table) _ area) (record { answer = refl; bytes = refl }) (λ r after o. (o .answer, o .bytes));
+  repair = λ taps part scratch.
+      let table = repairTable taps part scratch in
+      call-holds (RepairOutcome taps part scratch) repairNumber (λ n. repairing.Refused n) (λ n. refl) _ refl (λ n e. let z : Never = cc in omega arith) table refl
+      scratch _ (unwritten (firstOf table) _ scratch) (record { answer = refl; bytes = refl }) (λ r after o. (o .answer, o .bytes));
   apply = λ header area receiver hold list.
       let table = applyTable header area receiver hold list in
       call-holds (λ answer after. ApplyOutcome header area receiver hold list answer (after .0) (after .1))
@@ -92,6 +99,9 @@ every-call-holds = record {
       call-holds (λ answer after. EntryOutcome list position answer) entryNumber (λ n. listing.Refused n) (λ n. refl)
       (foundAt list position) (found-number list position)
       (never-found list position) (entryTable list position) refl tt tt (λ ne. refl) refl (λ r after o. (o, refl));
+  shown = λ answer part scratch.
+      never-refuses (λ r after. (r .0 ≡ shownBytes answer (now part) (now scratch)) × (r .1 ≡ shownPlace answer part scratch))
+      (shownBytes answer (now part) (now scratch), shownPlace answer part scratch) tt (refl, refl) (λ r after o. (λ j. (o .0 j, o .1 j), refl));
   packet = λ list from position.
       never-refuses (λ answer after. PacketOutcome list from position (answer .0) (answer .1))
       (packetAt list position, (from .0, placeAt list position + from .1)) tt

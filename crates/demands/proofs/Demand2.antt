@@ -24,11 +24,18 @@ use Rattle.header_reading.proofs.Theorems.{read-of-coded, coded-of-read, sent-o
 use Rattle.frame.specs.Frame.{frameBytes, frameBytesWith}
 use Rattle.frame.proofs.Laws.{frame-length}
 use Rattle.opening.specs.Opening.{openRefusal, openedHeader, openedReserved, openedArea, OpenOutcome}
+use Rattle.opening.specs.NearFrame.{NearFrame}
 use Rattle.opening.specs.declared.OpenAnswer.the-variants.{Opened}
 use Rattle.opening.proofs.Laws.{open-passed}
-use Rattle.opening.proofs.Built.{built-accepted}
-use Rattle.opening.proofs.Accepted.{accepted-frame, accepted-fits, accepted-area}
-use Rattle.opening.proofs.Theorems.{open-of-built, built-of-open}
+use Rattle.nearest.specs.Near.{differences}
+use Rattle.repairing.specs.Repairing.{repaired, repairRefusal, RepairOutcome, shownBytes}
+use Rattle.repairing.specs.declared.RepairAnswer.{RepairAnswer}
+use Rattle.repairing.specs.declared.RepairAnswer.the-variants.{Repaired}
+use Rattle.repairing.proofs.Laws.{Ready, repair-passed}
+use Rattle.repairing.proofs.Theorems.{repaired-is-coded, repaired-is-near, near-repaired, sent-shown}
+use Rattle.opening.proofs.Built.{near-accepted}
+use Rattle.opening.proofs.Accepted.{accepted-near, accepted-fits, accepted-area, accepted-bytes}
+use Rattle.opening.proofs.Theorems.{open-of-near, near-of-open}
 use Rattle.link.specs.Link.{Piece, Queue, onPieces}
 use Rattle.link.proofs.RoundTrip.{parse-queue}
 use Rattle.marks.specs.Queue.{usedIn, isRingWhole, waitingIn}
@@ -47,7 +54,7 @@ use Rattle.receiver.proofs.Tables.{read-as, area-passed, data-records, other-re
 use Rattle.receiver.proofs.Machine.{joined-pieces}
 use Rattle.receiver.proofs.Laws.{apply-passed, apply-pass}
 use Rattle.list.specs.Entries.{packetsRead}
-use Rattle.demands.specs.Demand2.{Scrambles, HoldsQueue, SentFrame, Openable, HasPieces, Applicable, Demand2}
+use Rattle.demands.specs.Demand2.{Scrambles, HoldsQueue, SentFrame, RepairableTo, Openable, HasPieces, Applicable, Demand2}
 use Rattle.demands.proofs.ReadBack.{apply-read}
 
 -- ---- the queue
@@ -86,11 +93,37 @@ sends-so taps fields sender sender′ queue out kind queue′ out′ small o =
       idle-frame = λ t. (rw t refl, area-idle waiting t);
     })
 
+-- ---- repair
+
+module _ (taps : ℕ) (part : List ℕ) where
+  repairable : (scratch : List ℕ) → repairRefusal taps part scratch ≡ 0
+      → (tapsAllowed taps ≡ true) × (2072 ≤ length scratch) × ((sent : List ℕ) × RepairableTo taps part sent)
+  repairable scratch e =
+      let ready = repair-passed taps part scratch e .0 in (
+        ready .allowed,
+        ready .room,
+        (repaired taps part, record { part-size = ready .long; coded = repaired-is-coded taps part scratch e; near = repaired-is-near taps part scratch e }),
+      )
+
+  module _ (sent scratch : List ℕ) (to : RepairableTo taps part sent) (allowed : tapsAllowed taps ≡ true) (room : 2072 ≤ length scratch) where
+    ready : Ready taps part scratch
+    ready = record { allowed = allowed; long = to .part-size; room = room }
+
+    sent-size : length sent ≡ 2072
+    sent-size = sym (scrambled-length taps sent) ∙ to .coded .long
+
+    repairs : repairRefusal taps part scratch ≡ 0
+    repairs = near-repaired taps part sent scratch ready sent-size (to .coded) (to .near)
+
+    shows : (answer : RepairAnswer) (after : List ℕ) → RepairOutcome taps part scratch answer after
+        → (answer ≡ Repaired (differences part sent)) × (shownBytes answer part after ≡ sent)
+    shows = sent-shown taps part sent scratch ready sent-size (to .coded) (to .near)
+
 -- ---- open
 
 module _ (taps : ℕ) (frame buffer : List ℕ) where
-  openable : Bytes frame → openRefusal taps frame buffer ≡ 0 → (tapsAllowed taps ≡ true) × (areaSize ≤ length buffer) × Openable taps frame
-  openable bytes e =
+  openable : openRefusal taps frame buffer ≡ 0 → (tapsAllowed taps ≡ true) × (areaSize ≤ length buffer) × Openable taps frame
+  openable e =
       let passed = open-passed taps frame buffer e in
       let whole = passed .0 .long in (
         passed .0 .allowed,
@@ -99,17 +132,17 @@ module _ (taps : ℕ) (frame buffer : List ℕ) where
           reserved = openedReserved taps frame;
           header = openedHeader taps frame;
           area = openedArea taps frame;
-          coded = accepted-frame taps frame bytes whole (passed .1);
-          may-be-sent = accepted-fits taps frame bytes whole (passed .1);
-          area-size = accepted-area taps frame bytes whole (passed .1);
+          near = accepted-near taps frame whole (passed .1);
+          may-be-sent = accepted-fits taps frame whole (passed .1);
+          area-size = accepted-area taps frame whole (passed .1);
+          area-bytes = accepted-bytes taps frame whole (passed .1);
         },
       )
 
   opens : (tapsAllowed taps ≡ true) × (areaSize ≤ length buffer) × Openable taps frame → openRefusal taps frame buffer ≡ 0
   opens h =
       let f = h .2 in
-      ap (λ (l : List ℕ). openRefusal taps l buffer) (f .coded)
-      ∙ built-accepted taps (f .reserved) (f .header) (f .area) (f .area-size) buffer (h .0) (f .may-be-sent) (h .1)
+      near-accepted taps (f .reserved) (f .header) (f .area) (f .area-size) (f .area-bytes) frame (f .near) buffer (h .0) (f .may-be-sent) (h .1)
 
 -- ---- apply
 
@@ -164,12 +197,14 @@ module _ (header : Header) (area : List ℕ) (receiver : Receiver) (hold list : 
 
 -- ---- the demand
 
-frame-again-so : (taps : ℕ) (frame before : List ℕ) (header : Header) (after : List ℕ) → Bytes frame → OpenOutcome taps frame before (Opened header) after
-    → (area : List ℕ) × ((frame ≡ frameBytesWith taps (openedReserved taps frame) header area) × (headerFits header ≡ true)
-    × (length area ≡ 1908) × (after ≡ written before 0 area))
-frame-again-so taps frame before header after bytes o =
-    let b = built-of-open taps frame before header after bytes o in
-    (openedArea taps frame, (b .0 .frame-is, b .0 .may-be-sent, b .0 .long, b .1))
+frame-again-so : (taps : ℕ) (frame before : List ℕ) (header : Header) (repaired : ℕ) (after : List ℕ)
+    → OpenOutcome taps frame before (Opened header repaired) after
+    → (area : List ℕ) × (NearFrame frame (frameBytesWith taps (openedReserved taps frame) header area) × (headerFits header ≡ true)
+    × (length area ≡ 1908) × Bytes area × (after ≡ written before 0 area)
+    × (repaired ≡ differences frame (frameBytesWith taps (openedReserved taps frame) header area)))
+frame-again-so taps frame before header repaired after o =
+    let b = near-of-open taps frame before header repaired after o in
+    (openedArea taps frame, (b .0 .near, b .0 .may-be-sent, b .0 .long, b .0 .bytes, b .1, b .0 .counted))
 
 scrambles : (taps : ℕ) → Scrambles taps
 scrambles taps = record { first-bits = first-bits taps; recurrence = recurrence taps; added = scrambled-byte taps; as-many = scrambled-length taps }
@@ -183,10 +218,12 @@ demand2-holds = record {
   queue-exactly = λ queue start used bytes. (holds-so queue start used bytes, so-holds queue start used bytes);
   queue-waits = λ queue start used waiting h. waiting-exactly queue start used waiting (h .can-wait) (sym (h .laid-out));
   area-exactly = read-iff;
-  frame-back = open-of-built;
+  repairs-exactly = λ taps part scratch. (repairable taps part scratch, λ h. repairs taps part (h .2 .0) scratch (h .2 .1) (h .0) (h .1));
+  repair-back = λ taps part sent before answer after allowed room to. shows taps part sent before to allowed room answer after;
+  frame-back = open-of-near;
   frame-again = frame-again-so;
   sends = sends-so;
-  opens-exactly = λ taps frame buffer bytes. (openable taps frame buffer bytes, opens taps frame buffer);
+  opens-exactly = λ taps frame buffer. (openable taps frame buffer, opens taps frame buffer);
   applies-exactly = λ header area receiver hold list bytes.
       (applicable header area receiver hold list bytes, applies header area receiver hold list);
   list-back = list-back-so;

@@ -7,7 +7,6 @@ use Prim.Native.Nat.{ℕ}
 use native.Mathlib.Omega.{arith}
 use lib.ListN.{length}
 use borrow.Author.Tests.{eq-eqb}
-use Rattle.basics.specs.Lists.{Bytes}
 use Rattle.lent.specs.Refusals.{Row, _unless_, firstOf}
 use Rattle.lent.proofs.Refusals.{numbersOf}
 use Rattle.header.specs.Header.{fieldsFit, headerFits}
@@ -68,16 +67,16 @@ module _ (header : Header) (area : List ℕ) (receiver : Receiver) (hold list : 
     unasked-rxfn valid rxfn = misfit-given (simp (valid, rxfn, and-false))
 
   -- whatever `open` answered is never refused with 11, whatever it is applied to
-  pub never-11 : (taps : ℕ) (frame buffer after : List ℕ) → Bytes frame → OpenOutcome taps frame buffer (opening.Opened header) after
+  pub never-11 : (taps : ℕ) (frame buffer : List ℕ) (repaired : ℕ) (after : List ℕ) → OpenOutcome taps frame buffer (opening.Opened header repaired) after
       → (hold′ list′ : List ℕ) → ApplyOutcome header area receiver hold list (applying.Refused 11) hold′ list′ → ⊥
-  never-11 taps frame buffer after bytes opened hold′ list′ applied =
-      fitting-never (demand2-holds .frame-again taps frame buffer header after bytes opened .1 .1) (sym (apply-numbers applied))
+  never-11 taps frame buffer repaired after opened hold′ list′ applied =
+      fitting-never (demand2-holds .frame-again taps frame buffer header repaired after opened .1 .1) (sym (apply-numbers applied))
 
 -- and in C, where the header goes out as numbers and comes back
-pub c-never-11 : (taps : ℕ) (frame buffer after : List ℕ) (opened : FlatOpen) → Bytes frame → OpenCall taps frame buffer opened after → opened .refusal ≡ 0
+pub c-never-11 : (taps : ℕ) (frame buffer after : List ℕ) (opened : FlatOpen) → OpenCall taps frame buffer opened after → opened .refusal ≡ 0
     → (area : List ℕ) (receiver : FlatReceiver) (hold list : List ℕ) (applied : FlatApply) (hold′ list′ : List ℕ)
     → ApplyCall (opened .header) area receiver hold list applied hold′ list′ → applied .refusal ≡ 11 → ⊥
-c-never-11 taps frame buffer after opened bytes o none area receiver hold list applied hold′ list′ a eleven =
+c-never-11 taps frame buffer after opened o none area receiver hold list applied hold′ list′ a eleven =
     go (o .answer) (o .outcome) (o .flat) (a .answer) (a .outcome) (a .flat)
   where
     go : (answer : OpenAnswer) → OpenOutcome taps frame buffer answer after → opened ≡ flatOpen answer
@@ -86,10 +85,10 @@ c-never-11 taps frame buffer after opened bytes o none area receiver hold list a
     go (opening.Refused number) outcome e next applies f =
         every-call-holds .open-frame taps frame buffer .refusal (opening.Refused number) number after outcome refl .0
         (sym (ap (λ (r : FlatOpen). r .refusal) e) ∙ none)
-    go (opening.Opened header) outcome e (applying.Applied missed packets listed state) applies f =
+    go (opening.Opened header repaired) outcome e (applying.Applied missed packets listed state) applies f =
         let z : _≡_ {A = ℕ} 0 11 = sym (ap (λ (r : FlatApply). r .refusal) f) ∙ eleven in omega arith
-    go (opening.Opened header) outcome e (applying.Refused number) applies f =
-        let fit = demand2-holds .frame-again taps frame buffer header after bytes outcome .1 .1 in
+    go (opening.Opened header repaired) outcome e (applying.Refused number) applies f =
+        let fit = demand2-holds .frame-again taps frame buffer header repaired after outcome .1 .1 in
         let same : headerOf (opened .header) ≡ header = ap (λ (r : FlatOpen). headerOf (r .header)) e ∙ header-through-c header fit in
         let is : number ≡ 11 = sym (ap (λ (r : FlatApply). r .refusal) f) ∙ eleven in
-        never-11 header area (receiverOf receiver) hold list taps frame buffer after bytes outcome hold′ list′ (rw (same, is) at applies)
+        never-11 header area (receiverOf receiver) hold list taps frame buffer repaired after outcome hold′ list′ (rw (same, is) at applies)

@@ -32,6 +32,7 @@ use Rattle.receiver.specs.Applying.{freshReceiver}
 use Rattle.demands.specs.Demand3.{SenderCall, callPut, SenderCalls, framesSent, queueLeft, piecesCarried, Fate, marks, learned, History, Promise}
 use Rattle.demands.proofs.Sender.{granted, fresh-sound, all-carried}
 use Rattle.demands.proofs.Demand3.{demand3-holds}
+use Rattle.opening.proofs.NearFrame.{near-own}
 use Rattle.demands.proofs.Histories.{Input, givePacket, askFrame, Way, lose, pass, spoil, fatesOf, wayMarks, marked-so, history-of}
 use Rattle.demands.proofs.Runs.{run, fresh-ready, all-yes}
 
@@ -61,8 +62,11 @@ module _ (taps : ℕ) (allowed : tapsAllowed taps ≡ true) (fields : Fields) (f
   abbrev pub calls : List SenderCall
   calls = callPut [] (putting.Refused 4) queue ∷ run taps allowed freshSender queue inputs
 
+  abbrev asSent : Way
+  asSent = pass (λ frame. frame) near-own area list area-size list-size
+
   abbrev pub ways : List Way
-  ways = pass area list area-size list-size ∷ lose ∷ spoil (zeros frameSize) area list ∷ pass area list area-size list-size ∷ []
+  ways = asSent ∷ lose ∷ spoil (zeros frameSize) area list ∷ asSent ∷ []
 
   abbrev pub fates : List Fate
   fates = fatesOf taps freshReceiver hold ways (framesSent calls)

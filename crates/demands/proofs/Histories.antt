@@ -8,12 +8,14 @@ use Prim.Native.Nat.{ℕ, zero, suc, _≤_, _<_}
 use native.Mathlib.Omega.{arith}
 use lib.ListN.{length, take}
 use Rattle.basics.specs.Lists.{Bytes}
-use Rattle.basics.specs.Sizes.{areaSize, holdSize, listSize}
+use Rattle.basics.specs.Sizes.{areaSize, frameSize, holdSize, listSize}
 use Rattle.scrambler.specs.Scrambler.{tapsAllowed}
 use Rattle.header.specs.declared.Fields.{Fields}
 use Rattle.link.specs.Ledger.{Mark, lost, accepted, Limit}
 use Rattle.sender.specs.Put.{freshSender}
 use Rattle.sender.specs.declared.Sender.{Sender}
+use Rattle.sender.proofs.Stands.{fresh-stands}
+use Rattle.opening.specs.NearFrame.{NearFrame}
 use Rattle.opening.specs.declared.OpenAnswer.{OpenAnswer}
 use Rattle.opening.specs.declared.OpenAnswer.the-variants as opening
 use Rattle.receiver.specs.Applying.{freshReceiver, receiverAfter}
@@ -41,6 +43,7 @@ use Rattle.demands.specs.Demand3.{
   History,
 }
 use Rattle.demands.proofs.Demand1.{every-call-holds}
+use Rattle.demands.proofs.Sender.{AllLong, all-long, fresh-sound}
 
 -- ---- any inputs to the sender: a packet to put, whether it finds room or not, or a frame to send, with any header fields and any buffer
 
@@ -67,17 +70,18 @@ module _ (taps : ℕ) where
       let called = every-call-holds .next-frame taps fields sender queue out .answered in
       (called .1 .1, any-calls inputs (nextLeaves sender (called .0)) (called .1 .0 .0))
 
--- ---- any ways of the frames: lost; come as sent, with any buffers of the listed sizes for area and list; come as any other bytes, with any buffers
+-- ---- any ways of the frames: lost; come near what was sent, with any buffers of the listed sizes for area and list; come as any other bytes, with any buffers
 
 pub data Way : Type 0 where
   lose : Way
-  pass : (area list : List ℕ) → areaSize ≤ length area → listSize ≤ length list → Way
+  pass : (came : List ℕ → List ℕ) → ((frame : List ℕ) → length frame ≡ frameSize → NearFrame (came frame) frame)
+      → (area list : List ℕ) → areaSize ≤ length area → listSize ≤ length list → Way
   spoil : (other area list : List ℕ) → Way
 
 -- what was opened is answered when it is applied
 applied : (opened : OpenAnswer) (area : List ℕ) (receiver : Receiver) (hold list : List ℕ)
     → (answer : ApplyAnswer) × ((lent : List ℕ × List ℕ) × AppliedAs opened area receiver hold list answer (lent .0) (lent .1))
-applied (opening.Opened header) area receiver hold list = every-call-holds .apply header area receiver hold list .answered
+applied (opening.Opened header repaired) area receiver hold list = every-call-holds .apply header area receiver hold list .answered
 applied (opening.Refused number) area receiver hold list = (applying.Refused number, ((hold, list), (refl, refl, refl)))
 
 -- other bytes that are refused are the frame, damaged; where they are not refused, let the frame be lost
@@ -111,9 +115,9 @@ module _ (taps : ℕ) where
   fatesOf receiver hold [] frames = []
   fatesOf receiver hold (way ∷ ways) [] = []
   fatesOf receiver hold (lose ∷ ways) (frame ∷ frames) = missing ∷ fatesOf receiver hold ways frames
-  fatesOf receiver hold (pass area list area-room list-room ∷ ways) (frame ∷ frames) =
-      let both = received frame receiver hold area list .0 in
-      arrives both ∷ fatesOf (receiverAfter receiver (both .answer)) (both .hold′) ways frames
+  fatesOf receiver hold (pass came near area list area-room list-room ∷ ways) (frame ∷ frames) =
+      let both = received (came frame) receiver hold area list .0 in
+      arrives (came frame) both ∷ fatesOf (receiverAfter receiver (both .answer)) (both .hold′) ways frames
   fatesOf receiver hold (spoil other area list ∷ ways) (frame ∷ frames) =
       let both = received other receiver hold area list .0 in
       spoiled other both (both .answer) ∷ fatesOf receiver (heldThen (both .answer) hold (both .hold′)) ways frames
@@ -125,29 +129,29 @@ module _ (taps : ℕ) where
   spoiled-meets other receiver hold both met (applying.Applied missed packets listed next) e frame fates frames h = h
   spoiled-meets other receiver hold both met (applying.Refused number) e frame fates frames h = (met, e, h)
 
-  pub any-fates : (ways : List Way) (receiver : Receiver) (hold : List ℕ) (frames : List (List ℕ))
+  pub any-fates : (ways : List Way) (receiver : Receiver) (hold : List ℕ) (frames : List (List ℕ)) → AllLong frames
       → ReceiverCalls taps receiver hold (fatesOf receiver hold ways frames) frames
   unfolding received
-  any-fates [] receiver hold frames = tt
-  any-fates (way ∷ ways) receiver hold [] = tt
-  any-fates (lose ∷ ways) receiver hold (frame ∷ frames) = any-fates ways receiver hold frames
-  any-fates (pass area list area-room list-room ∷ ways) receiver hold (frame ∷ frames) =
-      let called = received frame receiver hold area list in
+  any-fates [] receiver hold frames long = tt
+  any-fates (way ∷ ways) receiver hold [] long = tt
+  any-fates (lose ∷ ways) receiver hold (frame ∷ frames) long = any-fates ways receiver hold frames (long .1)
+  any-fates (pass came near area list area-room list-room ∷ ways) receiver hold (frame ∷ frames) long =
+      let called = received (came frame) receiver hold area list in
       let both = called .0 in
-      (area-room, list-room, called .1, any-fates ways (receiverAfter receiver (both .answer)) (both .hold′) frames)
-  any-fates (spoil other area list ∷ ways) receiver hold (frame ∷ frames) =
+      (near frame (long .0), area-room, list-room, called .1, any-fates ways (receiverAfter receiver (both .answer)) (both .hold′) frames (long .1))
+  any-fates (spoil other area list ∷ ways) receiver hold (frame ∷ frames) long =
       let called = received other receiver hold area list in
       let both = called .0 in
       let left = heldThen (both .answer) hold (both .hold′) in
       spoiled-meets other receiver hold both (called .1) (both .answer) refl frame (fatesOf receiver left ways frames) frames
-      (any-fates ways receiver left frames)
+      (any-fates ways receiver left frames (long .1))
 
   no-more : (ways : List Way) (receiver : Receiver) (hold : List ℕ) (frames : List (List ℕ)) → length (fatesOf receiver hold ways frames) ≤ length ways
   no-more [] receiver hold frames = omega arith
   no-more (way ∷ ways) receiver hold [] = omega arith
   no-more (lose ∷ ways) receiver hold (frame ∷ frames) = omega (arith, no-more ways receiver hold frames)
-  no-more (pass area list area-room list-room ∷ ways) receiver hold (frame ∷ frames) =
-      let both = received frame receiver hold area list .0 in
+  no-more (pass came near area list area-room list-room ∷ ways) receiver hold (frame ∷ frames) =
+      let both = received (came frame) receiver hold area list .0 in
       omega (arith, no-more ways (receiverAfter receiver (both .answer)) (both .hold′) frames)
   no-more (spoil other area list ∷ ways) receiver hold (frame ∷ frames) =
       let both = received other receiver hold area list .0 in
@@ -156,7 +160,7 @@ module _ (taps : ℕ) where
   -- the mark of each frame is that of its way
   abbrev pub wayMarks : List Way → ℕ → Mark
   wayMarks [] i = lost
-  wayMarks (pass area list area-room list-room ∷ ways) zero = accepted
+  wayMarks (pass came near area list area-room list-room ∷ ways) zero = accepted
   wayMarks (lose ∷ ways) zero = lost
   wayMarks (spoil other area list ∷ ways) zero = lost
   wayMarks (way ∷ ways) (suc i) = wayMarks ways i
@@ -170,13 +174,13 @@ module _ (taps : ℕ) where
   marked-so [] receiver hold frames h i = refl
   marked-so (way ∷ ways) receiver hold [] h i = absurd (omega arith)
   marked-so (lose ∷ ways) receiver hold (frame ∷ frames) h zero = refl
-  marked-so (pass area list area-room list-room ∷ ways) receiver hold (frame ∷ frames) h zero = refl
+  marked-so (pass came near area list area-room list-room ∷ ways) receiver hold (frame ∷ frames) h zero = refl
   marked-so (spoil other area list ∷ ways) receiver hold (frame ∷ frames) h zero =
       let both = received other receiver hold area list .0 in
       spoiled-lost other both (both .answer)
   marked-so (lose ∷ ways) receiver hold (frame ∷ frames) h (suc i) = marked-so ways receiver hold frames (omega arith) i
-  marked-so (pass area list area-room list-room ∷ ways) receiver hold (frame ∷ frames) h (suc i) =
-      let both = received frame receiver hold area list .0 in
+  marked-so (pass came near area list area-room list-room ∷ ways) receiver hold (frame ∷ frames) h (suc i) =
+      let both = received (came frame) receiver hold area list .0 in
       marked-so ways (receiverAfter receiver (both .answer)) (both .hold′) frames (omega arith) i
   marked-so (spoil other area list ∷ ways) receiver hold (frame ∷ frames) h (suc i) =
       let both = received other receiver hold area list .0 in
@@ -203,7 +207,8 @@ module _ (taps : ℕ) (allowed : tapsAllowed taps ≡ true) (queue : List ℕ) (
     queue-bytes = queue-bytes;
     hold-size = hold-size;
     sent = met;
-    came = any-fates taps ways freshReceiver hold (framesSent calls);
+    came = any-fates taps ways freshReceiver hold (framesSent calls)
+        (all-long taps 0 (framesSent calls) _ (fresh-sound taps freshSender queue calls (fresh-stands queue queue-bytes) met .carried));
     limit = few-limit (fatesOf taps freshReceiver hold ways (framesSent calls)) (omega (arith, no-more taps ways freshReceiver hold (framesSent calls)));
   }
 

@@ -12,4 +12,5 @@ pub mod Runs
 pub mod Example
 pub mod Consequences1
 pub mod Consequences2
+pub mod RepairedParts
 pub mod Eleven

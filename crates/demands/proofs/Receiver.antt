@@ -16,7 +16,10 @@ use Rattle.header.specs.Header.{allOnes}
 use Rattle.header.specs.declared.Header.{Header}
 use Rattle.opening.specs.declared.OpenAnswer.{OpenAnswer}
 use Rattle.opening.specs.declared.OpenAnswer.the-variants as opening
-use Rattle.opening.proofs.Theorems.{open-of-built}
+use Rattle.frame.specs.Frame.{frameBytes}
+use Rattle.nearest.specs.Near.{differences}
+use Rattle.opening.specs.NearFrame.{NearFrame}
+use Rattle.opening.proofs.Theorems.{open-of-near}
 use Rattle.link.proofs.Machine as machine
 use Rattle.link.specs.Link.{Piece, fits, Answer}
 use Rattle.link.proofs.Machine.{deliver}
@@ -58,7 +61,7 @@ fresh-holds hold e = record { stands = refl; most = omega arith; long = e }
 -- whatever is refused, by the one call or the other, the hold stays
 hold-stays : (opened : OpenAnswer) (area : List ℕ) (receiver : Receiver) (hold list : List ℕ) (number : ℕ) (left after : List ℕ)
     → AppliedAs opened area receiver hold list (answer.Refused number) left after → left ≡ hold
-hold-stays (opening.Opened header) area receiver hold list number left after o =
+hold-stays (opening.Opened header repaired) area receiver hold list number left after o =
     ap (λ (lent : List ℕ × List ℕ). lent .0)
     (every-call-holds .apply header area receiver hold list .refusal (answer.Refused number) number (left, after) o refl .1)
 hold-stays (opening.Refused other) area receiver hold list number left after o = o .1
@@ -70,7 +73,8 @@ pub record Takes (receiver : Receiver) (r : ApplyAnswer) (hold′ list′ : List
   pub learns : learnedFrom r list′ ≡ c .answer
   pub holds : Holds (receiverAfter receiver r) hold′ (c .state)
 
-module _ (taps : ℕ) (frame : List ℕ) (receiver : Receiver) (hold : List ℕ) (both : BothCalls) (met : Receives taps frame receiver hold both)
+module _ (taps : ℕ) (frame came : List ℕ) (near : NearFrame came frame) (receiver : Receiver) (hold : List ℕ) (both : BothCalls)
+    (met : Receives taps came receiver hold both)
     (allowed : tapsAllowed taps ≡ true) (area-room : 1908 ≤ length (both .area)) (list-room : 10907 ≤ length (both .list))
     (i : ℕ) (pieces : List Piece) (s : Sends taps frame i pieces) (model : machine.Receiver) (h : Holds receiver hold model) where
   abbrev header : Header
@@ -80,10 +84,10 @@ module _ (taps : ℕ) (frame : List ℕ) (receiver : Receiver) (hold : List ℕ)
   area = s .opened .area
 
   -- it is opened to what was sent, ..
-  opens : (both .opened ≡ opening.Opened header) × (both .area′ ≡ written (both .area) 0 area)
+  opens : (both .opened ≡ opening.Opened header (differences came (frameBytes taps header area))) × (both .area′ ≡ written (both .area) 0 area)
   opens =
-      open-of-built taps allOnes header area (both .area) (both .opened) (both .area′) allowed (s .carries .fits-header) (s .carries .long) area-room
-      (rw (s .carries .coded) at (met .0))
+      open-of-near taps allOnes header area came (both .area) (both .opened) (both .area′) allowed (s .carries .fits-header) (s .carries .long)
+      (s .carries .bytes) area-room (rw (s .carries .coded) at near) (met .0)
 
   -- .. and applied as opened
   applies : ApplyOutcome header area receiver hold (both .list) (both .answer) (both .hold′) (both .list′)
@@ -179,9 +183,9 @@ module _ (taps : ℕ) (allowed : tapsAllowed taps ≡ true) (mark : ℕ → Mark
       let same : both .hold′ ≡ hold =
       hold-stays (both .opened) (take 1908 (both .area′)) receiver hold (both .list) number (both .hold′) (both .list′) refused in
       rw (now i m e) (hears fates (suc i) receiver (both .hold′) model frames more (then i m e) (rw same h) (c .1) (d .2))
-  hears (arrives both ∷ fates) i receiver hold model (frame ∷ frames) (pieces ∷ more) e h c d =
-      let m = marks (arrives both ∷ fates) in
-      let t = receives taps frame receiver hold both (d .2) allowed (d .0) (d .1) i pieces (c .0) model h in
+  hears (arrives came both ∷ fates) i receiver hold model (frame ∷ frames) (pieces ∷ more) e h c d =
+      let m = marks (arrives came both ∷ fates) in
+      let t = receives taps frame came (d .0) receiver hold both (d .3) allowed (d .1) (d .2) i pieces (c .0) model h in
       let said = machine.receive model (i % 65536) pieces in
-      let ih = hears fates (suc i) (receiverAfter receiver (both .answer)) (both .hold′) (said .state) frames more (then i m e) (t .holds) (c .1) (d .3) in
+      let ih = hears fates (suc i) (receiverAfter receiver (both .answer)) (both .hold′) (said .state) frames more (then i m e) (t .holds) (c .1) (d .4) in
       rw (now i m e, t .learns) (ap (λ (l : List Answer). said .answer ∷ l) ih)

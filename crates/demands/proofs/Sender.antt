@@ -4,13 +4,17 @@ use mathlib.Core.Bool.{Bool, true, false, cond}
 use mathlib.Core.Option.{some}
 use mathlib.Core.List.{List, [], _∷_, map}
 use Prim.Native.Nat.{ℕ, suc, _%_}
+use lib.ListN.{length}
 use Rattle.header.specs.Header.{allOnes}
 use Rattle.header.specs.declared.Fields.{Fields}
 use Rattle.header.specs.declared.FrameKind.{FrameKind}
 use Rattle.header.specs.declared.FrameKind.the-variants.{Idle, Data}
 use Rattle.header.specs.declared.Header.{Header}
+use Rattle.frame.specs.Frame.{frameBytes}
+use Rattle.frame.proofs.Laws.{frame-length}
 use Rattle.opening.specs.Opening.{openedHeader, openedArea}
-use Rattle.opening.proofs.Built.{built-header, built-area}
+use Rattle.opening.proofs.NearFrame.{near-own}
+use Rattle.opening.proofs.Built.{near-header, near-area}
 use Rattle.link.specs.Link.{Packet, ArePackets, Piece, Queue, IsQueue, Cut, empty}
 use Rattle.link.proofs.Machine.{withPacket, cut, Call, putsOf, framesOf, queueAfter}
 use Rattle.link.proofs.Machine as machine
@@ -46,6 +50,11 @@ put-kept : (queue : List ℕ) (sender : Sender) (packet : List ℕ) (number : �
     → PutOutcome queue sender packet (put.Refused number) after → after ≡ queue
 put-kept queue sender packet number after o = every-call-holds .put queue sender packet .refusal (put.Refused number) number after o refl .1
 
+-- frames of 2,081 bytes
+abbrev pub AllLong : List (List ℕ) → Type 0
+AllLong [] = Unit {0}
+AllLong (frame ∷ frames) = (length frame ≡ 2081) × AllLong frames
+
 module _ (taps : ℕ) where
   -- a coded frame has the number of frame i, and these pieces
   pub record Sends (frame : List ℕ) (i : ℕ) (pieces : List Piece) : Type 0 where
@@ -80,14 +89,32 @@ module _ (taps : ℕ) where
     pub own-pieces : piecesOf (header .kind) area ≡ some pieces
     own-pieces = same-pieces (header .kind) (s .opened) (s .carries .kind-is) ∙ s .has
 
+    abbrev built : List ℕ
+    built = frameBytes taps header area
+
+    built-length : length built ≡ 2081
+    built-length = frame-length allOnes header taps area (s .carries .long)
+
     header-is : openedHeader taps frame ≡ header
-    header-is = ap (openedHeader taps) (s .carries .coded) ∙ built-header taps allOnes header area (s .carries .long) (s .carries .fits-header)
+    header-is =
+        ap (openedHeader taps) (s .carries .coded)
+        ∙ near-header taps allOnes header area (s .carries .long) (s .carries .bytes) built (near-own built built-length) (s .carries .fits-header)
 
     area-is : openedArea taps frame ≡ area
-    area-is = ap (openedArea taps) (s .carries .coded) ∙ built-area taps allOnes header area (s .carries .long)
+    area-is =
+        ap (openedArea taps) (s .carries .coded)
+        ∙ near-area taps allOnes header area (s .carries .long) (s .carries .bytes) built (near-own built built-length)
 
     pieces-are : piecesOf (openedHeader taps frame .kind) (openedArea taps frame) ≡ some pieces
     pieces-are = (λ j. piecesOf (header-is j .kind) (area-is j)) ∙ own-pieces
+
+  -- every frame that is sent has 2,081 bytes
+  pub all-long : (i : ℕ) (frames : List (List ℕ)) (all : List (List Piece)) → AllSend i frames all → AllLong frames
+  all-long i [] [] h = tt
+  all-long i [] (pieces ∷ more) h = absurd h
+  all-long i (frame ∷ frames) [] h = absurd h
+  all-long i (frame ∷ frames) (pieces ∷ more) h =
+      (ap length (h .0 .carries .coded) ∙ built-length (h .0), all-long (suc i) frames more (h .1))
 
   pub all-carried : (i : ℕ) (frames : List (List ℕ)) (all : List (List Piece)) → AllSend i frames all → map (piecesCarried taps) frames ≡ all
   all-carried i [] [] h = refl

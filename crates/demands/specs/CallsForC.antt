@@ -17,6 +17,8 @@ use Rattle.sending.specs.Next.{nextTable}
 use Rattle.sending.specs.declared.NextAnswer.the-variants as sending
 use Rattle.opening.specs.Opening.{openTable}
 use Rattle.opening.specs.declared.OpenAnswer.the-variants as opening
+use Rattle.repairing.specs.Repairing.{repairTable}
+use Rattle.repairing.specs.declared.RepairAnswer.the-variants as repairing
 use Rattle.receiver.specs.Applying.{applyTable}
 use Rattle.receiver.specs.declared.ApplyAnswer.the-variants as applying
 use Rattle.list.specs.Entries.{entryTable}
@@ -27,18 +29,19 @@ use Rattle.flat.specs.declared.headers.FlatHeader.{FlatHeader}
 use Rattle.flat.specs.States.{receiverOf}
 use Rattle.flat.specs.declared.states.FlatReceiver.{FlatReceiver}
 use Rattle.flat.specs.declared.states.FlatSender.{FlatSender}
-use Rattle.flat.specs.Answers.{flatPut, flatWaiting, flatNext, flatOpen, flatApply, flatCode, flatRead, flatEntry}
+use Rattle.flat.specs.Answers.{flatPut, flatWaiting, flatNext, flatOpen, flatRepair, flatApply, flatCode, flatRead, flatEntry}
 use Rattle.flat.specs.declared.FlatPut.{FlatPut}
 use Rattle.flat.specs.declared.FlatWaiting.{FlatWaiting}
 use Rattle.flat.specs.declared.FlatNext.{FlatNext}
 use Rattle.flat.specs.declared.FlatOpen.{FlatOpen}
+use Rattle.flat.specs.declared.FlatRepair.{FlatRepair}
 use Rattle.flat.specs.declared.FlatApply.{FlatApply}
 use Rattle.flat.specs.declared.FlatCode.{FlatCode}
 use Rattle.flat.specs.declared.FlatRead.{FlatRead}
 use Rattle.flat.specs.declared.FlatEntry.{FlatEntry}
 use Rattle.flat.specs.declared.FlatPacket.{FlatPacket}
-use Rattle.taqwelim.specs.Calls.{FreshSenderCall, PutCall, WaitingCall, NextCall, FreshReceiverCall, OpenCall, ApplyCall, EntryCall, PacketCall}
-use Rattle.taqwelim.specs.Calls.{CodeCall, ReadCall, LevelCall}
+use Rattle.taqwelim.specs.Calls.{FreshSenderCall, PutCall, WaitingCall, NextCall, FreshReceiverCall, OpenCall, RepairCall, ApplyCall, EntryCall}
+use Rattle.taqwelim.specs.Calls.{PacketCall, CodeCall, ReadCall, LevelCall}
 use Rattle.demands.specs.Demand1.{Demand1}
 
 -- an answer refuses with a number, which is not 0, if it is what C gets for that refusal (0 is what C gets where nothing is refused)
@@ -63,6 +66,9 @@ pub record EveryCallForC : Type 0 where
   pub open-frame : (taps : ℕ) (frame area : List ℕ)
       → Demand1 {Answer = FlatOpen} (OpenCall taps frame area) area (λ answer. answer .refusal)
       (RefusesAs (λ number. flatOpen (opening.Refused number))) (openTable taps frame area)
+  pub repair : (taps : ℕ) (part scratch : List ℕ)
+      → Demand1 {Answer = FlatRepair} (RepairCall taps part scratch) scratch (λ answer. answer .refusal)
+      (RefusesAs (λ number. flatRepair (repairing.Refused number))) (repairTable taps part scratch)
   pub apply : (header : FlatHeader) (area : List ℕ) (receiver : FlatReceiver) (hold list : List ℕ)
       → Demand1 {Answer = FlatApply} {Lent = List ℕ × List ℕ} (λ answer after. ApplyCall header area receiver hold list answer (after .0) (after .1))
       (hold, list) (λ answer. answer .refusal) (RefusesAs (λ number. flatApply receiver (applying.Refused number)))

@@ -5,6 +5,7 @@ use mathlib.Core.Path.{_≡_}
 use mathlib.Core.Bool.{true}
 use mathlib.Core.List.{List, [], _∷_, _++_}
 use Prim.Native.Nat.{ℕ, _≤_}
+use denote.Ref.{RefT, now}
 use lib.IntN.{ℤ}
 use Rattle.lent.specs.Refusals.{Row, firstOf}
 use Rattle.header.specs.Calls.{codeTable, codeNumber, CodeHeaderOutcome}
@@ -19,6 +20,9 @@ use Rattle.header_reading.specs.declared.ReadAnswer.the-variants as reading
 use Rattle.opening.specs.Opening.{openTable, openNumber, OpenOutcome}
 use Rattle.opening.specs.declared.OpenAnswer.{OpenAnswer}
 use Rattle.opening.specs.declared.OpenAnswer.the-variants as opening
+use Rattle.repairing.specs.Repairing.{repairTable, repairNumber, RepairOutcome, shownBytes, shownPlace}
+use Rattle.repairing.specs.declared.RepairAnswer.{RepairAnswer}
+use Rattle.repairing.specs.declared.RepairAnswer.the-variants as repairing
 use Rattle.sender.specs.Put.{putTable, putNumber, PutOutcome}
 use Rattle.sender.specs.Waiting.{waitingTable, waitingNumber, WaitingOutcome}
 use Rattle.sending.specs.Next.{nextTable, nextNumber, NextOutcome}
@@ -67,6 +71,9 @@ pub record EveryCall : Type 0 where
   pub open-frame : (taps : ℕ) (frame area : List ℕ)
       → Demand1 {Answer = OpenAnswer} (OpenOutcome taps frame area) area openNumber (λ answer number. answer ≡ opening.Refused number)
       (openTable taps frame area)
+  pub repair : (taps : ℕ) (part scratch : List ℕ)
+      → Demand1 {Answer = RepairAnswer} (RepairOutcome taps part scratch) scratch repairNumber (λ answer number. answer ≡ repairing.Refused number)
+      (repairTable taps part scratch)
   pub apply : (header : Header) (area : List ℕ) (receiver : Receiver) (hold list : List ℕ)
       → Demand1 {Answer = ApplyAnswer} {Lent = List ℕ × List ℕ}
       (λ answer after. ApplyOutcome header area receiver hold list answer (after .0) (after .1))
@@ -74,7 +81,7 @@ pub record EveryCall : Type 0 where
   pub code-header : (header : Header) (out : List ℕ)
       → Demand1 {Answer = CodeAnswer} (CodeHeaderOutcome header out) out codeNumber
       (λ answer number. answer ≡ coding.Refused number) (codeTable header out)
-  -- the calls below write nothing; the last two refuse nothing
+  -- the calls below write nothing; the last three refuse nothing
   pub waiting : (queue : List ℕ) (sender : Sender)
       → Demand1 {Answer = WaitingAnswer} {Lent = Unit {0}} (λ answer after. WaitingOutcome queue sender answer) tt waitingNumber
       (λ answer number. answer ≡ counting.Refused number) (waitingTable queue (sender .start) (sender .used))
@@ -84,6 +91,11 @@ pub record EveryCall : Type 0 where
   pub entry : (list : List ℕ) (position : ℕ)
       → Demand1 {Answer = EntryAnswer} {Lent = Unit {0}} (λ answer after. EntryOutcome list position answer) tt entryNumber
       (λ answer number. answer ≡ listing.Refused number) (entryTable list position)
+  -- the bytes handed back after a repair and where they stand; an empty part at a refusal of `repair`
+  pub shown : (answer : RepairAnswer) (part scratch : RefT (List ℕ))
+      → Demand1 {Answer = List ℕ × (ℕ × ℕ)} {Lent = Unit {0}}
+      (λ r after. (r .0 ≡ shownBytes answer (now part) (now scratch)) × (r .1 ≡ shownPlace answer part scratch)) tt (λ r. 0)
+      (λ r number. ⊥) []
   -- the bytes handed back and where they stand; an empty part at an end or a refusal of `entry`
   pub packet : (list : List ℕ) (from : ℕ × ℕ) (position : ℕ)
       → Demand1 {Answer = List ℕ × (ℕ × ℕ)} {Lent = Unit {0}}

@@ -1,7 +1,8 @@
 -- DEMAND 2: what is sent is bit for bit what the standard and paper 01 define; what is accepted is exactly what they allow, read back to the same fields and
 -- bytes. What they define is said by `headerBytes` (the 16 bytes), `frameBytes` (a whole frame), `Scrambles` (the scrambler's bits), `Allowed` (the packing
 -- rules of an area) and `HoldsQueue` (the layout of a queue). What may arrive is the same with reserved bits of any value (`headerBytesWith`,
--- `frameBytesWith`), since 02, M-100. `demand2-holds` in proofs/Demand2.antt is the proof.
+-- `frameBytesWith`), since 02, M-100, and with at most 8 wrong bytes in the header and in each payload word (`NearFrame`), since 02, M-101, which are
+-- repaired. `demand2-holds` in proofs/Demand2.antt is the proof.
 use mathlib.Core.Path.{_≡_}
 use mathlib.Core.Logic.{_↔_}
 use mathlib.Core.Bool.{true, false, cond}
@@ -24,7 +25,13 @@ use Rattle.header.specs.declared.FrameKind.the-variants.{Idle, Data}
 use Rattle.header.specs.declared.Header.{Header}
 use Rattle.header_reading.specs.declared.ReadAnswer.the-variants.{Read}
 use Rattle.frame.specs.Frame.{frameBytes, frameBytesWith}
+use Rattle.nearest.specs.Near.{differences}
+use Rattle.repairing.specs.NearPart.{Coded, NearPart}
+use Rattle.repairing.specs.Repairing.{repairRefusal, RepairOutcome, shownBytes}
+use Rattle.repairing.specs.declared.RepairAnswer.{RepairAnswer}
+use Rattle.repairing.specs.declared.RepairAnswer.the-variants.{Repaired}
 use Rattle.opening.specs.Opening.{openRefusal, openedReserved, OpenOutcome}
+use Rattle.opening.specs.NearFrame.{NearFrame}
 use Rattle.opening.specs.declared.OpenAnswer.{OpenAnswer}
 use Rattle.opening.specs.declared.OpenAnswer.the-variants.{Opened}
 use Rattle.link.specs.Link.{Piece, Queue, IsQueue, busy, onPieces, fits}
@@ -70,16 +77,25 @@ pub record SentFrame (taps : ℕ) (fields : Fields) (sender : Sender) (waiting :
   pub data-frame : busy waiting ≡ true → (kind ≡ Data) × Allowed area (fill areaSize waiting .pieces)
   pub idle-frame : busy waiting ≡ false → (kind ≡ Idle) × (area ≡ zeros areaSize)
 
+-- ---------------------------------------------------------------- what repair accepts
+
+-- the 2,072 bytes behind a preamble are near these, which are coded as the standard and paper 01 define (otherwise 2, 8, 12)
+pub record RepairableTo (taps : ℕ) (part sent : List ℕ) : Type 0 where
+  pub part-size : length part ≡ 2072
+  pub coded : Coded (scrambled taps sent)
+  pub near : NearPart part sent
+
 -- ---------------------------------------------------------------- what open accepts
 
--- the frame is one that the standard and paper 01 define, but for its reserved bits, which may have any value (otherwise 2, 7 to 9, 11 to 13)
+-- the frame is near one that the standard and paper 01 define, but for its reserved bits, which may have any value (otherwise 2, 7 to 9, 11 to 13)
 pub record Openable (taps : ℕ) (frame : List ℕ) : Type 0 where
   pub reserved : ReservedBits
   pub header : Header
   pub area : List ℕ
-  pub coded : frame ≡ frameBytesWith taps reserved header area
+  pub near : NearFrame frame (frameBytesWith taps reserved header area)
   pub may-be-sent : headerFits header ≡ true
   pub area-size : length area ≡ areaSize
+  pub area-bytes : Bytes area
 
 -- ---------------------------------------------------------------- what apply accepts
 
@@ -118,17 +134,28 @@ pub record Demand2 : Type 0 where
   pub queue-waits : (queue : List ℕ) (start used : ℕ) (waiting : Queue) → HoldsQueue queue start used waiting → waitingIn queue start used ≡ waiting
   -- the area: the reader accepts exactly the areas by the packing rules, with the pieces that the rules see in them
   pub area-exactly : (area : List ℕ) (pieces : List Piece) → Bytes area → (read area ≡ some pieces) ↔ Allowed area pieces
-  -- the frame: what is built, whatever the reserved bits, is opened to the same header and area ..
-  pub frame-back : (taps : ℕ) (reserved : ReservedBits) (header : Header) (area before : List ℕ) (answer : OpenAnswer) (after : List ℕ)
-      → tapsAllowed taps ≡ true → headerFits header ≡ true → length area ≡ areaSize → areaSize ≤ length before
-      → OpenOutcome taps (frameBytesWith taps reserved header area) before answer after → (answer ≡ Opened header) × (after ≡ written before 0 area)
-  -- .. what is opened is what would be built of the answer, whose header may be sent, of the reserved bits that came and of the area written
-  pub frame-again : (taps : ℕ) (frame before : List ℕ) (header : Header) (after : List ℕ)
-      → Bytes frame → OpenOutcome taps frame before (Opened header) after
-      → (area : List ℕ) × ((frame ≡ frameBytesWith taps (openedReserved taps frame) header area) × (headerFits header ≡ true)
-      × (length area ≡ areaSize) × (after ≡ written before 0 area))
+  -- repair: exactly a part near a coded one is repaired, with allowed taps (otherwise 1) and room in the scratch (otherwise 2), ..
+  pub repairs-exactly : (taps : ℕ) (part scratch : List ℕ)
+      → (repairRefusal taps part scratch ≡ 0)
+      ↔ ((tapsAllowed taps ≡ true) × (2072 ≤ length scratch) × ((sent : List ℕ) × RepairableTo taps part sent))
+  -- .. and to that one: it is what is shown then, and the count is of the places where the two differ
+  pub repair-back : (taps : ℕ) (part sent before : List ℕ) (answer : RepairAnswer) (after : List ℕ)
+      → tapsAllowed taps ≡ true → 2072 ≤ length before → RepairableTo taps part sent → RepairOutcome taps part before answer after
+      → (answer ≡ Repaired (differences part sent)) × (shownBytes answer part after ≡ sent)
+  -- the frame: what came near one that was built, whatever the reserved bits, is opened to the same header and area, and the wrong bytes are counted ..
+  pub frame-back : (taps : ℕ) (reserved : ReservedBits) (header : Header) (area came before : List ℕ) (answer : OpenAnswer) (after : List ℕ)
+      → tapsAllowed taps ≡ true → headerFits header ≡ true → length area ≡ areaSize → Bytes area → areaSize ≤ length before
+      → NearFrame came (frameBytesWith taps reserved header area) → OpenOutcome taps came before answer after
+      → (answer ≡ Opened header (differences came (frameBytesWith taps reserved header area))) × (after ≡ written before 0 area)
+  -- .. what is opened is near what would be built of the answer, whose header may be sent and whose count is of the wrong bytes, of the reserved bits as
+  -- repaired and of the area written
+  pub frame-again : (taps : ℕ) (frame before : List ℕ) (header : Header) (repaired : ℕ) (after : List ℕ)
+      → OpenOutcome taps frame before (Opened header repaired) after
+      → (area : List ℕ) × (NearFrame frame (frameBytesWith taps (openedReserved taps frame) header area) × (headerFits header ≡ true)
+      × (length area ≡ areaSize) × Bytes area × (after ≡ written before 0 area)
+      × (repaired ≡ differences frame (frameBytesWith taps (openedReserved taps frame) header area)))
   -- .. and exactly such frames are opened, with allowed taps (otherwise 1) and room for the area (otherwise 2)
-  pub opens-exactly : (taps : ℕ) (frame buffer : List ℕ) → Bytes frame
+  pub opens-exactly : (taps : ℕ) (frame buffer : List ℕ)
       → (openRefusal taps frame buffer ≡ 0) ↔ ((tapsAllowed taps ≡ true) × (areaSize ≤ length buffer) × Openable taps frame)
   -- next_frame: what stands at the front of its buffer, for a number of 16 bits
   pub sends : (taps : ℕ) (fields : Fields) (sender sender′ : Sender) (queue out : List ℕ) (kind : FrameKind) (queue′ out′ : List ℕ)

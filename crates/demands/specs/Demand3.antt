@@ -13,6 +13,7 @@ use Rattle.basics.specs.Sizes.{areaSize, frameSize, holdSize, listSize}
 use Rattle.scrambler.specs.Scrambler.{tapsAllowed}
 use Rattle.header.specs.declared.Fields.{Fields}
 use Rattle.opening.specs.Opening.{openedHeader, openedArea, OpenOutcome}
+use Rattle.opening.specs.NearFrame.{NearFrame}
 use Rattle.opening.specs.declared.OpenAnswer.{OpenAnswer}
 use Rattle.opening.specs.declared.OpenAnswer.the-variants as opening
 use Rattle.link.specs.Link.{Packet, Piece, Queue, Answer, taken, refused}
@@ -95,7 +96,7 @@ pub record BothCalls : Type 0 where
 
 -- what was opened is applied, once and as opened; where `open` refused, that refusal stands, and nothing is applied
 abbrev pub AppliedAs : OpenAnswer → List ℕ → Receiver → List ℕ → List ℕ → ApplyAnswer → List ℕ → List ℕ → Type 0
-AppliedAs (opening.Opened header) area receiver hold list answer hold′ list′ = ApplyOutcome header area receiver hold list answer hold′ list′
+AppliedAs (opening.Opened header repaired) area receiver hold list answer hold′ list′ = ApplyOutcome header area receiver hold list answer hold′ list′
 AppliedAs (opening.Refused number) area receiver hold list answer hold′ list′ =
     (answer ≡ apply.Refused number) × (hold′ ≡ hold) × (list′ ≡ list)
 
@@ -105,21 +106,22 @@ Receives taps frame receiver hold both =
     OpenOutcome taps frame (both .area) (both .opened) (both .area′)
     × AppliedAs (both .opened) (take areaSize (both .area′)) receiver hold (both .list) (both .answer) (both .hold′) (both .list′)
 
--- It is missing; or it comes as it was sent; or it comes damaged, as any other bytes, and is refused by the one call or the other.
+-- It is missing; or it comes, as it was sent or with at most 8 wrong bytes in the header and in each payload word (02, M-101); or it comes damaged, as any
+-- other bytes, and is refused by the one call or the other.
 pub data Fate : Type 0 where
   missing : Fate
-  arrives : (both : BothCalls) → Fate
+  arrives : (came : List ℕ) (both : BothCalls) → Fate
   damaged : (other : List ℕ) (number : ℕ) (both : BothCalls) → Fate
 
 -- The frames come in the order in which they were sent, once each, and nothing else comes. Each is received before the next, in the state and with the hold
--- that the one before it left; one that comes as it was sent, with any buffers of the listed sizes for area and list. Frames past the end of the fates have
--- not come yet.
+-- that the one before it left; one that comes near what was sent, with any buffers of the listed sizes for area and list. Frames past the end of the fates
+-- have not come yet.
 abbrev pub ReceiverCalls : ℕ → Receiver → List ℕ → List Fate → List (List ℕ) → Type 0
 ReceiverCalls taps receiver hold [] frames = Unit {0}
 ReceiverCalls taps receiver hold (fate ∷ fates) [] = ⊥
 ReceiverCalls taps receiver hold (missing ∷ fates) (frame ∷ frames) = ReceiverCalls taps receiver hold fates frames
-ReceiverCalls taps receiver hold (arrives both ∷ fates) (frame ∷ frames) =
-    (areaSize ≤ length (both .area)) × (listSize ≤ length (both .list)) × Receives taps frame receiver hold both
+ReceiverCalls taps receiver hold (arrives came both ∷ fates) (frame ∷ frames) =
+    NearFrame came frame × (areaSize ≤ length (both .area)) × (listSize ≤ length (both .list)) × Receives taps came receiver hold both
     × ReceiverCalls taps (receiverAfter receiver (both .answer)) (both .hold′) fates frames
 ReceiverCalls taps receiver hold (damaged other number both ∷ fates) (frame ∷ frames) =
     Receives taps other receiver hold both × (both .answer ≡ apply.Refused number) × ReceiverCalls taps receiver (both .hold′) fates frames
@@ -127,7 +129,7 @@ ReceiverCalls taps receiver hold (damaged other number both ∷ fates) (frame �
 -- whether each frame was accepted: mark i is the mark of frame i
 abbrev pub markOf : Fate → Mark
 markOf missing = lost
-markOf (arrives both) = accepted
+markOf (arrives came both) = accepted
 markOf (damaged other number both) = lost
 
 abbrev pub marks : List Fate → ℕ → Mark
@@ -135,8 +137,8 @@ marks [] i = lost
 marks (fate ∷ fates) zero = markOf fate
 marks (fate ∷ fates) (suc i) = marks fates i
 
--- What the caller learns from a frame that comes as it was sent: the missed count, and the packets that `entry` and `packet` read from the listed bytes. A 16
--- while reading counts as a refusal, and demand 3 excludes it.
+-- What the caller learns from a frame that comes near what was sent: the missed count, and the packets that `entry` and `packet` read from the listed bytes.
+-- A 16 while reading counts as a refusal, and demand 3 excludes it.
 abbrev pub readOut : ℕ → Option (List Packet) → Answer
 readOut missed none = refused 16
 readOut missed (some packets) = taken missed packets
@@ -148,7 +150,7 @@ learnedFrom (apply.Refused number) list = refused number
 abbrev pub learned : List Fate → List Answer
 learned [] = []
 learned (missing ∷ fates) = learned fates
-learned (arrives both ∷ fates) = learnedFrom (both .answer) (both .list′) ∷ learned fates
+learned (arrives came both ∷ fates) = learnedFrom (both .answer) (both .list′) ∷ learned fates
 learned (damaged other number both ∷ fates) = learned fates
 
 -- ---------------------------------------------------------------- the demand

@@ -57,16 +57,23 @@ pub fn changed(body: &[u8], at_hand: &mut Lent) -> Outcome {
     digest::outcome(&frame[0..sizes::FRAME_SIZE], &body[0..8])
 }
 
-// What opening answers, in 25 bytes: the refusal's number and no fields, or 0 and every field.
-fn open_bytes(answer: OpenAnswer) -> [u8; 25] {
+fn with_count(head: &[u8; 25], repaired: u8) -> [u8; 26] {
+    let mut bytes = [0u8; 26];
+    lent::write_at(&mut bytes, 0, head);
+    bytes[25] = repaired;
+    bytes
+}
+
+// What opening answers, in 26 bytes: the refusal's number and zeros, or 0, every field, and how many bytes were repaired.
+fn open_bytes(answer: OpenAnswer) -> [u8; 26] {
     match answer {
-        OpenAnswer::Opened(header) => fields::accepted(header),
-        OpenAnswer::Refused(number) => fields::refused(number),
+        OpenAnswer::Opened { header, repaired } => with_count(&fields::accepted(header), repaired),
+        OpenAnswer::Refused(number) => with_count(&fields::refused(number), 0),
     }
 }
 
 // The same of a frame, by the taps in the first four bytes of a body.
-fn answer_of(body: &[u8], frame: &[u8], area: &mut [u8]) -> [u8; 25]
+fn answer_of(body: &[u8], frame: &[u8], area: &mut [u8]) -> [u8; 26]
     requires { ⌜ 4 ≤ length (now body) ⌝ }
 {
     open_bytes(opening::open(numbers::four_at(body, 0), frame, area))
@@ -74,7 +81,7 @@ fn answer_of(body: &[u8], frame: &[u8], area: &mut [u8]) -> [u8; 25]
 
 // Opens a frame into room for its area: the first bytes of the answer, as many as are given, and all that was lent.
 fn opened_outcome(body: &[u8], frame: &[u8], room: usize, answer: &[u8], area: &Lent) -> Outcome
-    requires { ⌜ (4 ≤ length (now body)) × (room ≤ 2100) × (length (now answer) ≤ 25) ⌝ }
+    requires { ⌜ (4 ≤ length (now body)) × (room ≤ 2100) × (length (now answer) ≤ 26) ⌝ }
 {
     let mut found = lent_bytes::kept();
     let bytes = answer_of(body, frame, &mut found[0..room]);
@@ -87,7 +94,7 @@ fn opened_outcome(body: &[u8], frame: &[u8], room: usize, answer: &[u8], area: &
 
 // Taps, the room lent for the area, what opening the frame at hand answers, the area that it then writes.
 pub fn opened(body: &[u8], at_hand: &Lent) -> Outcome {
-    if body.len() < 32 {
+    if body.len() < 33 {
         return Outcome::Malformed;
     }
     let room = numbers::two_at(body, 4) as usize;
@@ -95,13 +102,13 @@ pub fn opened(body: &[u8], at_hand: &Lent) -> Outcome {
         return Outcome::Malformed;
     }
     let frame = lent_bytes::kept_behind(at_hand);
-    let area = lent_bytes::area(&body[31..]);
+    let area = lent_bytes::area(&body[32..]);
     let expected = lent_bytes::kept_behind(&area);
     opened_outcome(
         body,
         &frame[0..sizes::FRAME_SIZE],
         room,
-        &body[6..31],
+        &body[6..32],
         &expected,
     )
 }

@@ -59,7 +59,10 @@ fn listed(
             receiver,
             next: ending::after_line(print_refused(place, number), is_whole),
         },
-        OpenAnswer::Opened(header) => {
+        OpenAnswer::Opened {
+            header,
+            repaired: _,
+        } => {
             let answer = receiver::apply(header, area, receiver, hold, list);
             let after = listing_lines::receiver_after(receiver, answer);
             Turn {

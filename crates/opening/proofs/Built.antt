@@ -1,13 +1,15 @@
--- A frame that was built, with reserved bits of any value, is accepted, and read back to its header and its area.
-use mathlib.Core.Path.{_≡_, refl, sym, ap, ap₂, _∙_}
+-- A frame that was built, with reserved bits of any value, is accepted and read back to its header and its area, as it was built or with at most 8 wrong bytes
+-- in the header and in each payload word.
+use mathlib.Core.Path.{_≡_, refl, sym, ap, ap₂, _∙_, subst}
 use mathlib.Core.Bool.{true}
 use mathlib.Core.List.{List, _++_, append-assoc}
-use Prim.Native.Nat.{ℕ, _+_, _≤_}
+use Prim.Native.Nat.{ℕ, _+_, _-_, _≤_}
 use native.Mathlib.Omega.{arith}
 use lib.Dec.{lit≤}
-use lib.ListN.{length, take, drop}
+use lib.ListN.{length, take, drop, length-append, length-drop}
 use lib.Seq.{take-at, drop-at, drop-drop, take-take, take-add, length-take-le}
-use Rattle.basics.specs.Lists.{zeros, same}
+use Rattle.basics.specs.Lists.{zeros, Bytes, same}
+use Rattle.basics.proofs.Lists.{bytes-append}
 use Rattle.basics.proofs.Tests.{same-self}
 use Rattle.lent.specs.Refusals.{firstOf}
 use Rattle.reed_solomon.specs.Code.{parity, isCodeword, lengthened}
@@ -22,9 +24,18 @@ use Rattle.header.specs.declared.Header.{Header}
 use Rattle.header.proofs.Bytes.{header-length}
 use Rattle.header_reading.proofs.Sent.{sendable, header-back, none-refused}
 use Rattle.frame.specs.Frame.{preamble, codedHeaderWith, areaCheck, areaPayload, frameBytesWith}
-use Rattle.frame.proofs.Laws.{payload-length, data-length, coded-header-length, frame-length}
-use Rattle.opening.specs.Opening.{unscrambled, headerPart, areaPart, areaChecked, frameTable, openRefusal, openedHeader, openedArea}
-use Rattle.opening.proofs.Laws.{frame-passes, open-by-frame}
+use Rattle.frame.proofs.Laws.{payload-length, data-length, coded-header-length, frame-length, coded-header-bytes, payload-bytes}
+use Rattle.nearest.specs.Near.{differences}
+use Rattle.repairing.specs.Body.{repairedBody}
+use Rattle.repairing.specs.Repairing.{repaired, wrongBytes}
+use Rattle.repairing.specs.NearPart.{Coded, NearPart}
+use Rattle.repairing.proofs.Coded.{sent-header-near, sent-words-near, sent-body}
+use Rattle.repairing.proofs.Scrambled.{scrambled-near}
+use Rattle.opening.specs.Opening.{unscrambled, headerPart, areaPart, areaChecked, frameTable, openRefusal}
+use Rattle.opening.specs.Opening.{openedHeader, openedArea, openedWrong}
+use Rattle.opening.specs.NearFrame.{NearFrame}
+use Rattle.opening.proofs.Laws.{unscrambled-length, frame-passes, open-by-frame}
+use Rattle.opening.proofs.NearFrame.{behind-wrong}
 
 module _ (taps : ℕ) (reserved : ReservedBits) (header : Header) (area : List ℕ) (long : length area ≡ 1908) where
   abbrev bytes : List ℕ
@@ -96,28 +107,73 @@ module _ (taps : ℕ) (reserved : ReservedBits) (header : Header) (area : List �
   unfolding areaChecked
   area-checked = ap₂ same body-check (ap areaCheck body-area) ∙ same-self (areaCheck area)
 
-  -- no row from 7 on refuses it
-  pub built-passes : headerFits header ≡ true → firstOf (frameTable taps frame) ≡ 0
-  built-passes h =
-      frame-passes taps frame record {
-        begins = frame-front;
-        header-word = ap (λ (l : List ℕ). isCodeword (lengthened (take 32 l))) frame-body ∙ header-codeword;
-        header-read = ap (λ (l : List ℕ). firstOf (headerTable (headerPart l))) frame-body
-            ∙ ap (λ (l : List ℕ). firstOf (headerTable l)) body-fields
-            ∙ none-refused reserved header (sendable header h);
-        payload-words = ap (λ (l : List ℕ). areCodewords (drop 32 l)) frame-body ∙ payload-codewords;
-        checked = ap areaChecked frame-body ∙ area-checked;
-      }
+  body-length : length body ≡ 2072
+  body-length = length-append word (areaPayload area) ∙ ap₂ (λ (m n : ℕ). m + n) (coded-header-length reserved header) (payload-length area long)
 
-  pub built-accepted : (buffer : List ℕ) → tapsAllowed taps ≡ true → headerFits header ≡ true → 1908 ≤ length buffer → openRefusal taps frame buffer ≡ 0
-  built-accepted buffer t h room =
-      let whole = frame-length reserved header taps area long in
-      open-by-frame taps frame buffer (record { allowed = t; long = whole; room = room }) ∙ built-passes h
+  module _ (area-bytes : Bytes area) where
+    body-coded : Coded body
+    body-coded = record {
+      bytes = bytes-append word (areaPayload area) (coded-header-bytes reserved header) (payload-bytes area area-bytes);
+      long = body-length;
+      header = header-codeword;
+      words = payload-codewords;
+    }
 
-  pub built-header : headerFits header ≡ true → openedHeader taps frame ≡ header
-  unfolding openedHeader
-  built-header h = ap (λ (l : List ℕ). headerOf (headerPart l)) frame-body ∙ ap headerOf body-fields ∙ header-back reserved header (sendable header h)
+    -- unscrambled, what stands behind its preamble is coded
+    pub built-coded : Coded (unscrambled taps frame)
+    built-coded = subst Coded (sym frame-body) body-coded
 
-  pub built-area : openedArea taps frame ≡ area
-  unfolding openedArea
-  built-area = ap areaPart frame-body ∙ body-area
+    -- ---- what came of it
+
+    module _ (came : List ℕ) (near : NearFrame came frame) where
+      behind-length : length (drop 9 came) ≡ 2072
+      behind-length = length-drop 9 came ∙ ap (λ (n : ℕ). n - 9) (near .long)
+
+      frame-behind : length (drop 9 frame) ≡ 2072
+      frame-behind = length-drop 9 frame ∙ ap (λ (n : ℕ). n - 9) (frame-length reserved header taps area long)
+
+      came-near : NearPart (unscrambled taps came) body
+      unfolding unscrambled
+      came-near =
+          subst (NearPart (unscrambled taps came)) frame-body
+          (scrambled-near taps (drop 9 came) (drop 9 frame) (behind-length ∙ sym frame-behind) behind-length (near .behind-near))
+
+      came-length : length (unscrambled taps came) ≡ 2072
+      came-length = unscrambled-length taps came (near .long)
+
+      came-body : repairedBody (unscrambled taps came) ≡ body
+      came-body = sent-body (unscrambled taps came) body came-length body-coded came-near
+
+      -- no row from 7 on refuses it
+      near-passes : headerFits header ≡ true → firstOf (frameTable taps came) ≡ 0
+      near-passes h =
+          frame-passes taps came record {
+            begins = near .preamble-same ∙ frame-front;
+            header-near = sent-header-near (unscrambled taps came) body came-length body-coded came-near;
+            header-read = ap (λ (l : List ℕ). firstOf (headerTable (headerPart l))) came-body
+                ∙ ap (λ (l : List ℕ). firstOf (headerTable l)) body-fields
+                ∙ none-refused reserved header (sendable header h);
+            words-near = sent-words-near (unscrambled taps came) body came-length body-coded came-near;
+            checked = ap areaChecked came-body ∙ area-checked;
+          }
+
+      pub near-accepted : (buffer : List ℕ) → tapsAllowed taps ≡ true → headerFits header ≡ true → 1908 ≤ length buffer
+          → openRefusal taps came buffer ≡ 0
+      near-accepted buffer t h room =
+          open-by-frame taps came buffer (record { allowed = t; long = near .long; room = room }) ∙ near-passes h
+
+      pub near-header : headerFits header ≡ true → openedHeader taps came ≡ header
+      unfolding openedHeader
+      near-header h = ap (λ (l : List ℕ). headerOf (headerPart l)) came-body ∙ ap headerOf body-fields ∙ header-back reserved header (sendable header h)
+
+      pub near-area : openedArea taps came ≡ area
+      unfolding openedArea
+      near-area = ap areaPart came-body ∙ body-area
+
+      -- the bytes that were repaired are those that were wrong
+      pub near-wrong : openedWrong taps came ≡ differences came frame
+      unfolding wrongBytes repaired unscrambled frameBytesWith
+      near-wrong =
+          ap (λ (l : List ℕ). differences (drop 9 came) (scrambled taps l)) came-body
+          ∙ ap (differences (drop 9 came)) (sym (drop-at preamble (scrambled taps body) 9 refl))
+          ∙ sym (behind-wrong came frame near)

@@ -1,22 +1,22 @@
 -- What is known of a frame that passes the tables of its refusals; how the two numbers that `open` goes by are the table's; how long what was unscrambled is.
 use mathlib.Core.Path.{_≡_, refl, sym, ap, _∙_}
 use mathlib.Core.List.{List, [], _∷_}
-use mathlib.Core.Bool.{true, _&&_}
+use mathlib.Core.Bool.{Bool, true, _&&_}
 use Prim.Native.Nat.{ℕ, _-_, _≤_}
 use borrow.Author.Tests.{eqb-true, leb-true, eq-eqb, le-leb}
 use lib.Dec.{eqb, leb, lit<}
 use lib.ListN.{length, take, drop, length-drop}
-use Rattle.basics.specs.Lists.{same}
+use Rattle.basics.specs.Lists.{same, isSome}
 use Rattle.basics.proofs.Tests.{left-true, right-true, same-true, same-self}
 use Rattle.lent.specs.Refusals.{Row, _unless_, firstOf}
 use Rattle.lent.proofs.Refusals.{unless-passed, first-earlier, first-later, both-passed}
-use Rattle.reed_solomon.specs.Code.{isCodeword, lengthened}
-use Rattle.reed_solomon.specs.Payload.{areCodewords}
 use Rattle.scrambler.specs.Scrambler.{tapsAllowed}
 use Rattle.scrambler.proofs.Laws.{scrambled-length}
 use Rattle.header_reading.specs.Reading.{headerTable}
 use Rattle.frame.specs.Frame.{preamble}
-use Rattle.opening.specs.Opening.{unscrambled, headerPart, areaChecked, bodyTable, frameTable, openTable, openRefusal}
+use Rattle.nearest.specs.Near.{nearHeader}
+use Rattle.repairing.specs.Body.{wordsNear, repairedBody}
+use Rattle.opening.specs.Opening.{unscrambled, headerPart, areaChecked, repairedTable, bodyTable, frameTable, openTable, openRefusal}
 
 pub unscrambled-length : (taps : ℕ) (frame : List ℕ) → length frame ≡ 2081 → length (unscrambled taps frame) ≡ 2072
 unfolding unscrambled
@@ -27,46 +27,49 @@ unscrambled-length taps frame e = scrambled-length taps (drop 9 frame) ∙ lengt
 -- what is known of a frame that none of them refuses
 pub record Passed (taps : ℕ) (frame : List ℕ) : Type 0 where
   pub begins : take 9 frame ≡ preamble
-  pub header-word : isCodeword (lengthened (take 32 (unscrambled taps frame))) ≡ true
-  pub header-read : firstOf (headerTable (headerPart (unscrambled taps frame))) ≡ 0
-  pub payload-words : areCodewords (drop 32 (unscrambled taps frame)) ≡ true
-  pub checked : areaChecked (unscrambled taps frame) ≡ true
+  pub header-near : isSome (nearHeader (take 32 (unscrambled taps frame))) ≡ true
+  pub header-read : firstOf (headerTable (headerPart (repairedBody (unscrambled taps frame)))) ≡ 0
+  pub words-near : wordsNear (drop 32 (unscrambled taps frame)) ≡ true
+  pub checked : areaChecked (repairedBody (unscrambled taps frame)) ≡ true
 
-module _ (body : List ℕ) (word : isCodeword (lengthened (take 32 body)) ≡ true) where
+module _ (words : Bool) (body : List ℕ) where
   abbrev payloadRows : List Row
-  payloadRows = 12 unless areCodewords (drop 32 body) ∷ 13 unless areaChecked body ∷ []
+  payloadRows = 12 unless words ∷ 13 unless areaChecked body ∷ []
 
-  pub header-first : (n : ℕ) → n ≡ firstOf (headerTable (headerPart body)) → (n ≡ 0 → ⊥) → n ≡ firstOf (bodyTable body)
+  pub header-first : (n : ℕ) → n ≡ firstOf (headerTable (headerPart body)) → (n ≡ 0 → ⊥) → n ≡ firstOf (repairedTable true words body)
   unfolding firstOf
-  header-first n e ne = rw word (e ∙ sym (first-earlier (headerTable (headerPart body)) payloadRows (λ z. ne (e ∙ z))))
+  header-first n e ne = e ∙ sym (first-earlier (headerTable (headerPart body)) payloadRows (λ z. ne (e ∙ z)))
 
-  pub payload-then : firstOf (headerTable (headerPart body)) ≡ 0 → firstOf (bodyTable body) ≡ firstOf payloadRows
+  pub payload-then : firstOf (headerTable (headerPart body)) ≡ 0 → firstOf (repairedTable true words body) ≡ firstOf payloadRows
   unfolding firstOf
-  payload-then z = rw word (first-later (headerTable (headerPart body)) payloadRows refl z)
+  payload-then z = first-later (headerTable (headerPart body)) payloadRows refl z
 
 module _ (taps : ℕ) (frame : List ℕ) where
   abbrev body : List ℕ
   body = unscrambled taps frame
 
+  abbrev after : List ℕ
+  after = repairedBody body
+
   pub frame-passed : firstOf (frameTable taps frame) ≡ 0 → Passed taps frame
   frame-passed e =
       let seven = unless-passed 7 (same (take 9 frame) preamble) (bodyTable body) (lit< tt) e in
-      let eight = unless-passed 8 (isCodeword (lengthened (take 32 body))) _ (lit< tt) (seven .1) in
-      let header = both-passed (headerTable (headerPart body)) (12 unless areCodewords (drop 32 body) ∷ 13 unless areaChecked body ∷ []) refl (eight .1) in
-      let twelve = unless-passed 12 (areCodewords (drop 32 body)) _ (lit< tt) (header .1) in
+      let eight = unless-passed 8 (isSome (nearHeader (take 32 body))) _ (lit< tt) (seven .1) in
+      let header = both-passed (headerTable (headerPart after)) (payloadRows (wordsNear (drop 32 body)) after) refl (eight .1) in
+      let twelve = unless-passed 12 (wordsNear (drop 32 body)) _ (lit< tt) (header .1) in
       record {
         begins = same-true (take 9 frame) preamble (seven .0);
-        header-word = eight .0;
+        header-near = eight .0;
         header-read = header .0;
-        payload-words = twelve .0;
-        checked = unless-passed 13 (areaChecked body) [] (lit< tt) (twelve .1) .0;
+        words-near = twelve .0;
+        checked = unless-passed 13 (areaChecked after) [] (lit< tt) (twelve .1) .0;
       }
 
   pub frame-passes : Passed taps frame → firstOf (frameTable taps frame) ≡ 0
   unfolding firstOf
   frame-passes p =
-      rw (ap (λ (l : List ℕ). same l preamble) (p .begins) ∙ same-self preamble)
-      (payload-then body (p .header-word) (p .header-read) ∙ rw (p .payload-words, p .checked))
+      rw (ap (λ (l : List ℕ). same l preamble) (p .begins) ∙ same-self preamble, p .header-near)
+      (payload-then (wordsNear (drop 32 body)) after (p .header-read) ∙ rw (p .words-near, p .checked))
 
 -- ---- the rows 1 and 2, before them
 

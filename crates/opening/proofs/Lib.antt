@@ -1,4 +1,5 @@
 pub mod Laws
+pub mod NearFrame
 pub mod Built
 pub mod Accepted
 pub mod Theorems

@@ -1,21 +1,23 @@
--- Opening a frame (01, "Refusal numbers"; 02, M-106): the refusals 1, 2, 7 to 9 and 11 to 13, and the header and the area of a frame that is accepted.
+-- Opening a frame (01, "Refusal numbers"; 02, M-106 and M-101): the refusals 1, 2, 7 to 9 and 11 to 13, and the header and the area of a frame that is
+-- accepted, as they are where up to 8 wrong bytes of the coded header and of each payload word are repaired.
 use mathlib.Core.Path.{_≡_}
 use mathlib.Core.Bool.{Bool, _&&_}
 use mathlib.Core.List.{List, [], _∷_, _++_}
 use Prim.Native.Nat.{ℕ, _+_}
 use lib.Dec.{eqb, leb}
 use lib.ListN.{length, take, drop}
-use Rattle.basics.specs.Lists.{same}
+use Rattle.basics.specs.Lists.{same, isSome}
 use Rattle.basics.specs.Sizes.{areaSize, frameSize}
 use Rattle.lent.specs.Refusals.{Row, _unless_, firstOf, by, answerBy}
 use Rattle.lent.specs.Written.{written}
-use Rattle.reed_solomon.specs.Code.{isCodeword, lengthened}
-use Rattle.reed_solomon.specs.Payload.{areCodewords}
 use Rattle.scrambler.specs.Scrambler.{tapsAllowed, scrambled}
 use Rattle.header_reading.specs.Reading.{headerOf, reservedIn, headerTable}
 use Rattle.header.specs.Header.{ReservedBits}
 use Rattle.header.specs.declared.Header.{Header}
 use Rattle.frame.specs.Frame.{preamble, areaCheck}
+use Rattle.nearest.specs.Near.{nearHeader}
+use Rattle.repairing.specs.Body.{wordsNear, repairedBody}
+use Rattle.repairing.specs.Repairing.{wrongBytes}
 use Rattle.opening.specs.declared.OpenAnswer.{OpenAnswer}
 use Rattle.opening.specs.declared.OpenAnswer.the-variants.{Opened, Refused}
 
@@ -34,15 +36,18 @@ areaPart body = take areaSize (drop 32 body)
 unfoldable pub areaChecked : List ℕ → Bool
 areaChecked body = same (take 4 (drop (32 + areaSize) body)) (areaCheck (areaPart body))
 
--- what is asked of those bytes. 8: the coded header, with the zeros that are not sent, is no codeword. 9 and 11: of the header's 16 bytes.
--- 12: one of the eight payload words is no codeword. 13: the CRC-32 differs.
-abbrev pub bodyTable : List ℕ → List Row
-bodyTable body =
-    8 unless isCodeword (lengthened (take 32 body))
+-- what is asked of those bytes as repaired, and of what is near them as they came. 8: no codeword is near the coded header, with the zeros that are not
+-- sent. 9 and 11: of the header's 16 bytes. 12: no codeword is near one of the eight payload words. 13: the CRC-32 differs.
+abbrev pub repairedTable : Bool → Bool → List ℕ → List Row
+repairedTable header words body =
+    8 unless header
     ∷ headerTable (headerPart body)
-    ++ 12 unless areCodewords (drop 32 body)
+    ++ 12 unless words
     ∷ 13 unless areaChecked body
     ∷ []
+
+abbrev pub bodyTable : List ℕ → List Row
+bodyTable body = repairedTable (isSome (nearHeader (take 32 body))) (wordsNear (drop 32 body)) (repairedBody body)
 
 -- what is asked of a frame of 2,081 bytes. 7: the preamble differs. The others: of the bytes after it.
 abbrev pub frameTable : ℕ → List ℕ → List Row
@@ -58,22 +63,25 @@ openTable taps frame area =
 unfoldable pub openRefusal : ℕ → List ℕ → List ℕ → ℕ
 openRefusal taps frame area = firstOf (openTable taps frame area)
 
--- the header, the reserved bits beside it, and the area of a frame
+-- the header, the reserved bits beside it, and the area of a frame as repaired; how many of its bytes were wrong
 unfoldable pub openedHeader : ℕ → List ℕ → Header
-openedHeader taps frame = headerOf (headerPart (unscrambled taps frame))
+openedHeader taps frame = headerOf (headerPart (repairedBody (unscrambled taps frame)))
 
 abbrev pub openedReserved : ℕ → List ℕ → ReservedBits
-openedReserved taps frame = reservedIn (headerPart (unscrambled taps frame))
+openedReserved taps frame = reservedIn (headerPart (repairedBody (unscrambled taps frame)))
 
 unfoldable pub openedArea : ℕ → List ℕ → List ℕ
-openedArea taps frame = areaPart (unscrambled taps frame)
+openedArea taps frame = areaPart (repairedBody (unscrambled taps frame))
+
+abbrev pub openedWrong : ℕ → List ℕ → ℕ
+openedWrong taps frame = wrongBytes taps (drop 9 frame)
 
 -- the paper's number for each case of the answer (01, last section)
 abbrev pub openNumber : OpenAnswer → ℕ
-openNumber (Opened header) = 0
+openNumber (Opened header repaired) = 0
 openNumber (Refused number) = number
 
 -- the answer of `open`, and the area's buffer after it: a refusal leaves the buffer as it was
 pub record OpenOutcome (taps : ℕ) (frame before : List ℕ) (r : OpenAnswer) (after : List ℕ) : Type 0 where
-  pub answer : r ≡ answerBy (openRefusal taps frame before) (Opened (openedHeader taps frame)) Refused
+  pub answer : r ≡ answerBy (openRefusal taps frame before) (Opened (openedHeader taps frame) (openedWrong taps frame)) Refused
   pub bytes : after ≡ by (openRefusal taps frame before) (written before 0 (openedArea taps frame)) before

@@ -1,11 +1,10 @@
 // What is asked of a frame that arrived, in the order of the refusals' numbers.
 use basics::sizes;
-use reed_solomon::interleaving;
 ghost use mathlib.Core.Path.{_≡_};
 ghost use lib.ListN.{length, take};
 ghost use Rattle.basics.specs.Sizes.{frameSize};
 ghost use Rattle.lent.specs.Refusals.{firstOf};
-ghost use Rattle.opening.specs.Opening.{unscrambled, bodyTable, openTable, areaChecked};
+ghost use Rattle.opening.specs.Opening.{unscrambled, repairedTable, openTable, areaChecked};
 
 // Where the area ends in what follows the preamble: the 32 bytes of coded header stand before it.
 pub const AREA_END: usize = 32 + sizes::AREA_SIZE;
@@ -45,19 +44,19 @@ pub fn unscrambled(taps: u32, frame: &[u8]) -> [u8; 2072]
     body
 }
 
-// 8, 9, 11 to 13.
-pub fn inner_refusal(body: &[u8]) -> u8
+// 8, 9, 11 to 13: of a body as repaired, and whether a codeword was near its header and near each of its words.
+pub fn inner_refusal(header: bool, words: bool, body: &[u8]) -> u8
     requires { ⌜ length (now body) ≡ 2072 ⌝ }
-    ensures { λ r. ⌜ r ≡ firstOf (bodyTable (now (body .entry))) ⌝ }
+    ensures { λ r. ⌜ r ≡ firstOf (repairedTable header words (now (body .entry))) ⌝ }
 {
-    if !reed_solomon::is_codeword(&body[..32]) {
+    if !header {
         return 8;
     }
     let number = header_reading::header_refusal(&body[..16]);
     if number != 0 {
         return number;
     }
-    if !interleaving::are_codewords(&body[32..]) {
+    if !words {
         return 12;
     }
     if is_area_checked(body) { 0 } else { 13 }

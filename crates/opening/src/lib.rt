@@ -2,6 +2,7 @@
 mod judging;
 
 use header::Header;
+use repairing::body;
 ghost use mathlib.Core.Path.{_≡_};
 ghost use Prim.Native.Nat.{_≤_};
 ghost use lib.ListN.{length};
@@ -11,11 +12,13 @@ ghost use Rattle.lent.specs.Written.{written};
 ghost use Rattle.opening.specs.Opening.{areaPart, OpenOutcome};
 
 pub enum OpenAnswer {
-    Opened(Header),
+    // With the header, how many bytes of the frame were repaired.
+    Opened { header: Header, repaired: u8 },
     Refused(u8),
 }
 
-// Opens a frame: answers its header, and writes its area to the front of a buffer of at least 1,908 bytes. Refusals: 1, 2, 7 to 9, 11 to 13.
+// Opens a frame: repairs it in a copy, answers its header and how many bytes were wrong, and writes its area to the front of a buffer of at least 1,908
+// bytes. Refusals: 1, 2, 7 to 9, 11 to 13.
 pub fn open(taps: u32, frame: &[u8], area: &mut [u8]) -> OpenAnswer
     ensures { λ r. ⌜ OpenOutcome taps (now (frame .entry)) (now (area .entry)) r (now (area .exit)) ⌝ }
 {
@@ -23,13 +26,17 @@ pub fn open(taps: u32, frame: &[u8], area: &mut [u8]) -> OpenAnswer
     if outer != 0 {
         return OpenAnswer::Refused(outer);
     }
-    let body = judging::unscrambled(taps, frame);
-    let inner = judging::inner_refusal(&body);
+    let mut body = judging::unscrambled(taps, frame);
+    let near = body::repair_body(&mut body);
+    let inner = judging::inner_refusal(near.header, near.words, &body);
     write_area(inner, &body, area);
     if inner != 0 {
         return OpenAnswer::Refused(inner);
     }
-    OpenAnswer::Opened(header_reading::header_of(&body[..16]))
+    OpenAnswer::Opened {
+        header: header_reading::header_of(&body[..16]),
+        repaired: near.wrong,
+    }
 }
 
 // Writes the area that follows the coded header to the front of the buffer, where the frame is not refused.

@@ -30,7 +30,10 @@ fn opened_and_applied(
     let mut area = lent_bytes::kept();
     let opened = opening::open(taps, frame, &mut area);
     match opened {
-        OpenAnswer::Opened(header) => {
+        OpenAnswer::Opened {
+            header,
+            repaired: _,
+        } => {
             states::answer(
                 &fields::accepted(header),
                 receiver::apply(header, &area[0..sizes::AREA_SIZE], receiver, hold, list),

@@ -70,7 +70,10 @@ fn print_rows(tally: Tally, more: u64)
         28 + more,
         b"parity, plain form\ncodeword judged, plain form\npayload coded, plain form\npayload judged, plain form\nbytes scrambled, plain form\n",
     );
-    tally.print_kinds(33 + more, b"waiting counted\nframe changed\n");
+    tally.print_kinds(
+        33 + more,
+        b"waiting counted\nframe changed\npart repaired\npart shown\n",
+    );
 }
 
 pub fn print(tally: Tally) {
