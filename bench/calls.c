@@ -1,9 +1,10 @@
-/* Calls the library COUNT times: calls NAME COUNT [TAPS]. Writes the frame at hand to standard output. */
+/* Calls the library COUNT times: calls NAME COUNT [TAPS]. Writes the frame at hand to standard output, with the scratch in
+ * its place where a part was repaired. */
 #include "inputs.h"
 #include "taqwelim.h"
 
 static uint8_t queues[CALLS][TAQWELIM_QUEUE_SIZE], packet[PACKET], frame[TAQWELIM_FRAME_SIZE], area[TAQWELIM_AREA_SIZE];
-static uint8_t hold[TAQWELIM_HOLD_SIZE], list[TAQWELIM_LIST_MIN];
+static uint8_t hold[TAQWELIM_HOLD_SIZE], list[TAQWELIM_LIST_MIN], scratch[TAQWELIM_PART_SIZE];
 static const struct given *given;
 static taqwelim_sender sender; /* of each queue, before the call */
 static taqwelim_header header; /* of the frame that was opened */
@@ -22,6 +23,12 @@ static void open_frame(const char *name)
     header = opened.header;
 }
 
+static void repair(const char *name)
+{
+    uint8_t *part = frame + TAQWELIM_PREAMBLE_SIZE;
+    must(taqwelim_repair(taps, part, TAQWELIM_PART_SIZE, scratch, sizeof scratch).refusal, name);
+}
+
 static void apply(const char *name)
 {
     taqwelim_receiver fresh = taqwelim_fresh_receiver();
@@ -38,6 +45,8 @@ static void call(const char *name, int k)
         must(taqwelim_put(queues[k], sizeof queues[k], sender, packet, given->put).refusal, name);
     else if (begins(name, "open"))
         open_frame(name);
+    else if (begins(name, "repair"))
+        repair(name);
     else
         apply(name);
 }
@@ -54,11 +63,14 @@ int main(int argc, char **argv)
         sender.start = given->start;
         sender.used = fill_queue(queues[k], given);
     }
-    if (begins(name, "open") || begins(name, "apply"))
+    if (begins(name, "open") || begins(name, "repair") || begins(name, "apply"))
         next_frame(name, 0);
+    damage(frame, given->damaged);
     if (begins(name, "apply"))
         open_frame(name);
     for (int k = 0; k < count && k < CALLS; k++)
         call(name, k);
+    if (begins(name, "repair"))
+        memcpy(frame + TAQWELIM_PREAMBLE_SIZE, scratch, sizeof scratch);
     return show(frame, sizeof frame);
 }

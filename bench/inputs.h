@@ -7,8 +7,9 @@
 #include <stdlib.h>
 #include <string.h>
 
-/* ONES packets of one byte leave room for just one more in the ring. */
-enum { CALLS = 16, PACKET = 1906, RING = 32768, ONES = 10921 };
+/* ONES packets of one byte leave room for just one more in the ring. WORDS are those of a frame: eight of its payload,
+ * and its coded header. */
+enum { CALLS = 16, PACKET = 1906, RING = 32768, ONES = 10921, PART = 2072, WORDS = 9 };
 
 /* Bytes that look like samples, and never the same one for long. */
 static inline void fill_samples(uint8_t *bytes, size_t count)
@@ -38,32 +39,37 @@ static inline void fill_random(uint8_t *bytes, size_t count)
 }
 
 /* What a call is given: the packets that wait in the ring, `ones` of one byte and then some of these lengths, from
- * which place on, and how many bytes are put. A frame that is opened, or opened and applied, is the next one of its
- * queue. Every packet begins with the same bytes, so that frames of long packets have the same bytes but for a mark:
- * what the peer's codes cost goes by the bytes. With a start of 31,000 the ring's end parts the front packet, and the
- * mark of a packet of one byte. */
+ * which place on, how many bytes are put, and how many words of a frame have wrong bytes. A frame that is opened, opened
+ * and applied, or repaired, is the next one of its queue. Every packet begins with the same bytes, so that frames of long
+ * packets have the same bytes but for a mark: what the peer's codes cost goes by the bytes. With a start of 31,000 the
+ * ring's end parts the front packet, and the mark of a packet of one byte. */
 static const struct given {
     const char *name;
     void (*fill)(uint8_t *bytes, size_t count);
-    size_t start, ones, lengths[5], put;
+    size_t start, ones, lengths[5], put, damaged;
 } inputs[] = {
-    {"put", fill_samples, 0, 0, {0}, PACKET},
-    {"put_byte", fill_samples, 0, 0, {0}, 1},
-    {"put_ones", fill_samples, 0, ONES, {0}, 1},
-    {"put_ones_parted", fill_samples, 31000, ONES, {0}, 1},
-    {"waiting_one", fill_samples, 0, 0, {PACKET, 0}, 0},
-    {"waiting_ones", fill_samples, 0, ONES, {0}, 0},
-    {"next_one", fill_samples, 0, 0, {PACKET, 0}, 0},
-    {"next_full", fill_samples, 0, 0, {9000, 9000, 9000, 5760, 0}, 0},
-    {"next_one_parted", fill_samples, 31000, 0, {PACKET, 0}, 0},
-    {"next_full_parted", fill_samples, 31000, 0, {9000, 9000, 9000, 5760, 0}, 0},
-    {"next_ones", fill_samples, 0, ONES, {0}, 0},
-    {"next_ones_parted", fill_samples, 31000, ONES, {0}, 0},
-    {"next_random", fill_random, 0, 0, {PACKET, 0}, 0},
-    {"open_one", fill_samples, 0, 0, {PACKET, 0}, 0},
-    {"open_random", fill_random, 0, 0, {PACKET, 0}, 0},
-    {"apply_one", fill_samples, 0, 0, {PACKET, 0}, 0},
-    {"apply_ones", fill_samples, 0, ONES, {0}, 0},
+    {"put", fill_samples, 0, 0, {0}, PACKET, 0},
+    {"put_byte", fill_samples, 0, 0, {0}, 1, 0},
+    {"put_ones", fill_samples, 0, ONES, {0}, 1, 0},
+    {"put_ones_parted", fill_samples, 31000, ONES, {0}, 1, 0},
+    {"waiting_one", fill_samples, 0, 0, {PACKET, 0}, 0, 0},
+    {"waiting_ones", fill_samples, 0, ONES, {0}, 0, 0},
+    {"next_one", fill_samples, 0, 0, {PACKET, 0}, 0, 0},
+    {"next_full", fill_samples, 0, 0, {9000, 9000, 9000, 5760, 0}, 0, 0},
+    {"next_one_parted", fill_samples, 31000, 0, {PACKET, 0}, 0, 0},
+    {"next_full_parted", fill_samples, 31000, 0, {9000, 9000, 9000, 5760, 0}, 0, 0},
+    {"next_ones", fill_samples, 0, ONES, {0}, 0, 0},
+    {"next_ones_parted", fill_samples, 31000, ONES, {0}, 0, 0},
+    {"next_random", fill_random, 0, 0, {PACKET, 0}, 0, 0},
+    {"open_one", fill_samples, 0, 0, {PACKET, 0}, 0, 0},
+    {"open_random", fill_random, 0, 0, {PACKET, 0}, 0, 0},
+    {"open_eight", fill_samples, 0, 0, {PACKET, 0}, 0, 1},
+    {"open_most", fill_samples, 0, 0, {PACKET, 0}, 0, WORDS},
+    {"repair_none", fill_samples, 0, 0, {PACKET, 0}, 0, 0},
+    {"repair_eight", fill_samples, 0, 0, {PACKET, 0}, 0, 1},
+    {"repair_most", fill_samples, 0, 0, {PACKET, 0}, 0, WORDS},
+    {"apply_one", fill_samples, 0, 0, {PACKET, 0}, 0, 0},
+    {"apply_ones", fill_samples, 0, ONES, {0}, 0, 0},
 };
 
 /* What the call of this name is given, or NULL. */
@@ -101,6 +107,22 @@ static inline size_t fill_queue(uint8_t queue[RING], const struct given *given)
     for (const size_t *length = given->lengths; *length; length++)
         at = lay_packet(queue, at, packet, *length);
     return at - given->start;
+}
+
+/* As many wrong bytes in a word as are repaired, so far apart; the word's own bytes stand `step` apart. */
+static inline void damage_word(uint8_t *word, size_t step, size_t apart)
+{
+    for (size_t i = 0; i < 8; i++)
+        word[step * apart * i] ^= (uint8_t)(0x5A + i);
+}
+
+/* The same in so many words of a frame: of 9 the coded header is the last. */
+static inline void damage(uint8_t *frame, size_t words)
+{
+    for (size_t word = 0; word < words && word < 8; word++)
+        damage_word(frame + 41 + word, 8, 31);
+    if (words == WORDS)
+        damage_word(frame + 9, 1, 4);
 }
 
 /* So that the frames of both sides can be compared. */

@@ -14,15 +14,18 @@ struct peer_applied { uint16_t missed; size_t packets, listed; };
 
 void peer_start(void);
 
-/* coding.c: each answers 0, or the refusal's number. */
+/* coding.c: each answers 0, or the refusal's number; of words, how many bytes were wrong, or a number
+ * below 0 where no codeword is near. */
 uint32_t peer_crc_32(const uint8_t *bytes, size_t count);
 void peer_scramble(uint32_t taps, uint8_t *bytes, size_t count);
 void peer_write_parity(uint8_t payload[PAYLOAD]);
-int peer_are_codewords(const uint8_t payload[PAYLOAD]);
+int peer_repair_word(uint8_t word[255]);
+int peer_repair_words(uint8_t payload[PAYLOAD]);
 void peer_build(uint32_t taps, const uint8_t header[14], const uint8_t area[AREA], uint8_t frame[FRAME]);
 int peer_field_refusal(const uint8_t header[14]);
 int peer_open(uint32_t taps, const uint8_t *frame, size_t frame_length, uint8_t header[14], uint8_t *area,
               size_t area_length);
+int peer_repair(uint32_t taps, const uint8_t *part, size_t part_length, uint8_t *scratch, size_t scratch_length);
 
 /* packing.c */
 int peer_put(uint8_t *queue, size_t queue_length, struct peer_sender *sender, const uint8_t *packet, size_t length);

@@ -67,16 +67,32 @@ void peer_write_parity(uint8_t payload[PAYLOAD])
     }
 }
 
-int peer_are_codewords(const uint8_t payload[PAYLOAD])
+int peer_repair_word(uint8_t word[255])
 {
+    return decode_rs_char(payload_code, word, NULL, 0);
+}
+
+int peer_repair_words(uint8_t payload[PAYLOAD])
+{
+    int all = 0;
     for (int word = 0; word < 8; word++) {
         uint8_t bytes[255];
         for (int i = 0; i < 255; i++)
             bytes[i] = payload[8 * i + word];
-        if (decode_rs_char(payload_code, bytes, NULL, 0) != 0)
-            return 0;
+        int wrong = peer_repair_word(bytes);
+        if (wrong < 0)
+            return -1;
+        for (int i = 0; wrong > 0 && i < 255; i++)
+            payload[8 * i + word] = bytes[i];
+        all += wrong;
     }
-    return 1;
+    return all;
+}
+
+/* Below 0 also where the codeword that is near has another value in a byte that is not sent. */
+static int repair_header(uint8_t header[32])
+{
+    return decode_rs_char(header_code, header, NULL, 0);
 }
 
 void peer_build(uint32_t taps, const uint8_t header[14], const uint8_t area[AREA], uint8_t frame[FRAME])
@@ -110,7 +126,7 @@ int peer_field_refusal(const uint8_t header[14])
 int peer_open(uint32_t taps, const uint8_t *frame, size_t frame_length, uint8_t header[14], uint8_t *area,
               size_t area_length)
 {
-    uint8_t body[2072], word[32];
+    uint8_t body[2072];
     if (taps >> 25 || !(taps & 1))
         return 1;
     if (frame_length != FRAME || area_length < AREA)
@@ -119,20 +135,41 @@ int peer_open(uint32_t taps, const uint8_t *frame, size_t frame_length, uint8_t 
         return 7;
     memcpy(body, frame + 9, 2072);
     peer_scramble(taps, body, 2072);
-    memcpy(word, body, 32);
-    if (decode_rs_char(header_code, word, NULL, 0) != 0)
+    if (repair_header(body) < 0)
         return 8;
     if (crc_16(body, 14) != (body[14] << 8 | body[15]))
         return 9;
     if (peer_field_refusal(body))
         return 11;
-    const uint8_t *payload = body + 32;
-    if (!peer_are_codewords(payload))
+    uint8_t *payload = body + 32;
+    if (peer_repair_words(payload) < 0)
         return 12;
     uint32_t sum = (uint32_t)payload[AREA] << 24 | (uint32_t)payload[AREA + 1] << 16 | (uint32_t)payload[AREA + 2] << 8 | payload[AREA + 3];
     if (peer_crc_32(payload, AREA) != sum)
         return 13;
     memcpy(header, body, 14);
     memcpy(area, payload, AREA);
+    return 0;
+}
+
+int peer_repair(uint32_t taps, const uint8_t *part, size_t part_length, uint8_t *scratch, size_t scratch_length)
+{
+    uint8_t body[2072];
+    if (taps >> 25 || !(taps & 1))
+        return 1;
+    if (part_length != 2072 || scratch_length < 2072)
+        return 2;
+    memcpy(body, part, 2072);
+    peer_scramble(taps, body, 2072);
+    int header = repair_header(body);
+    if (header < 0)
+        return 8;
+    int words = peer_repair_words(body + 32);
+    if (words < 0)
+        return 12;
+    if (header + words == 0)
+        return 0;
+    peer_scramble(taps, body, 2072);
+    memcpy(scratch, body, 2072);
     return 0;
 }

@@ -1,5 +1,6 @@
-/* A session over a beam that is shaken: at each tick a packet is put and a frame is sent. One frame is lost and one
- * damaged; the packets that come out are whole and in their turn. session.cpp is the same in C++.
+/* A session over a beam that is shaken: at each tick a packet is put and a frame is sent. One frame is lost, one is
+ * damaged and repaired, and one beyond repair; the packets that come out are whole and in their turn. session.cpp is
+ * the same in C++.
  *
  *     rt staticlib taqwelim
  *     cc -std=c99 -Iinclude examples/session.c target/staticlib/libtaqwelim.a -o target/session
@@ -11,7 +12,8 @@
 #include <string.h>
 
 static const size_t lengths[] = {700, 1500, 2400, 900, 300, 4000}; /* of the packets A to F */
-enum { TICKS = sizeof lengths / sizeof lengths[0], LOST = 2, DAMAGED = 4 };
+enum { TICKS = sizeof lengths / sizeof lengths[0], LOST = 2 };
+static const int wrong[TICKS] = {0, 8, 0, 0, 9, 0}; /* bytes of one word that the beam damages: 8 are repaired */
 
 /* Makes the packet of a tick; its length. */
 static size_t make_packet(int tick, uint8_t *packet)
@@ -23,8 +25,8 @@ static size_t make_packet(int tick, uint8_t *packet)
 /* The beam: whether the frame of a tick arrives, and as what. */
 static int arrives(int tick, uint8_t *frame)
 {
-    if (tick == DAMAGED)
-        frame[TAQWELIM_FRAME_SIZE - 1] ^= 1;
+    for (int i = 0; i < wrong[tick]; i++)
+        frame[TAQWELIM_FRAME_SIZE - 1 - 8 * i] ^= 1; /* a word's bytes stand eight apart */
     if (tick == LOST)
         printf("frame %d: lost\n", tick);
     return tick != LOST;
@@ -54,7 +56,8 @@ int main(void)
         if (!opened.refusal)
             applied = taqwelim_apply(opened.header, area, sizeof area, receiver, hold, sizeof hold, list, sizeof list);
         receiver = applied.receiver; /* as it was, where either call refuses */
-        printf("frame %d: refusal %d, %d missed before it\n", tick, applied.refusal, applied.missed);
+        printf("frame %d: refusal %d, %d bytes repaired, %d missed before it\n", tick, applied.refusal, opened.repaired,
+               applied.missed);
         for (taqwelim_entry_answer entry = taqwelim_entry(list, applied.listed, 0); entry.found;
              entry = taqwelim_entry(list, applied.listed, entry.next))
             printf("  packet %c of %zu bytes\n", list[entry.start], entry.length);

@@ -38,7 +38,7 @@ public:
 };
 
 struct arrival {
-    int refusal, missed;
+    int refusal, repaired, missed;
     std::vector<packet> packets;
 };
 
@@ -52,11 +52,11 @@ public:
     {
         const auto opened = taqwelim_open(TAQWELIM_TAPS_0_AND_3, given.data(), given.size(), area.data(), area.size());
         if (opened.refusal != TAQWELIM_NOT_REFUSED)
-            return {opened.refusal, 0, {}}; // the state stays as it was
+            return {opened.refusal, 0, 0, {}}; // the state stays as it was
         const auto applied = taqwelim_apply(opened.header, area.data(), area.size(), state, hold.data(), hold.size(),
                                             list.data(), list.size());
         const auto entry_at = [&](auto position) { return taqwelim_entry(list.data(), applied.listed, position); };
-        arrival arrived{applied.refusal, applied.missed, {}};
+        arrival arrived{applied.refusal, opened.repaired, applied.missed, {}};
         for (auto entry = entry_at(0); entry.found; entry = entry_at(entry.next))
             arrived.packets.emplace_back(&list[entry.start], &list[entry.start] + entry.length);
         state = applied.receiver; // as it was, where what was opened is refused
@@ -66,7 +66,8 @@ public:
 
 int main()
 {
-    constexpr std::size_t lost = 2, damaged = 4;
+    constexpr std::size_t lost = 2;
+    constexpr std::array wrong{0, 8, 0, 0, 9, 0}; // bytes of one word that the beam damages: 8 are repaired
     const std::array given{packet(700, 'A'), packet(1500, 'B'), packet(2400, 'C'),
                            packet(900, 'D'), packet(300, 'E'), packet(4000, 'F')};
     near_end near;
@@ -74,14 +75,15 @@ int main()
     for (std::size_t tick = 0; tick < given.size(); ++tick) {
         near.put(given[tick]);
         auto sent = near.next_frame();
-        if (tick == damaged)
-            sent.back() ^= 1;
+        for (int i = 0; i < wrong[tick]; ++i)
+            sent[sent.size() - 1 - 8 * i] ^= 1; // a word's bytes stand eight apart
         if (tick == lost) {
             std::cout << "frame " << tick << ": lost\n";
             continue;
         }
-        const auto [refusal, missed, packets] = far.receive(sent);
-        std::cout << "frame " << tick << ": refusal " << refusal << ", " << missed << " missed before it\n";
+        const auto [refusal, repaired, missed, packets] = far.receive(sent);
+        std::cout << "frame " << tick << ": refusal " << refusal << ", " << repaired << " bytes repaired, " << missed
+                  << " missed before it\n";
         for (const auto &whole : packets)
             std::cout << "  packet " << whole.front() << " of " << whole.size() << " bytes\n";
     }

@@ -52,7 +52,7 @@
 
 /* ---- the library's version, which stands here alone; the text is "MAJOR.MINOR.PATCH" */
 #define TAQWELIM_VERSION_MAJOR 0
-#define TAQWELIM_VERSION_MINOR 3
+#define TAQWELIM_VERSION_MINOR 4
 #define TAQWELIM_VERSION_PATCH 0
 #define TAQWELIM_VERSION TAQWELIM_VERSION_TEXT(TAQWELIM_VERSION_MAJOR, TAQWELIM_VERSION_MINOR, TAQWELIM_VERSION_PATCH)
 #define TAQWELIM_VERSION_TEXT(major, minor, patch) TAQWELIM_VERSION_TEXT_OF(major, minor, patch)
@@ -62,6 +62,8 @@
 #define TAQWELIM_PACKET_MIN 1
 #define TAQWELIM_PACKET_MAX 9000
 #define TAQWELIM_FRAME_SIZE 2081  /* a frame on the wire; what next_frame writes it to may be longer */
+#define TAQWELIM_PREAMBLE_SIZE 9  /* the preamble that a frame begins with */
+#define TAQWELIM_PART_SIZE 2072   /* the part of a frame after it; the scratch that repair writes it to may be longer */
 #define TAQWELIM_AREA_SIZE 1908   /* the data area of a frame; what open writes it to may be longer */
 #define TAQWELIM_HEADER_SIZE 16   /* a bare header */
 #define TAQWELIM_QUEUE_SIZE 32768 /* what is lent for the packets that wait */
@@ -72,9 +74,10 @@
  *      call that it makes, and fails where one takes more. What a dynamic linker takes that binds memcpy at its first
  *      call is not in it. */
 #define TAQWELIM_STACK_NEXT_FRAME 10240
-#define TAQWELIM_STACK_OPEN 8192
+#define TAQWELIM_STACK_OPEN 12288
+#define TAQWELIM_STACK_REPAIR 12288
 #define TAQWELIM_STACK_OTHERS 512 /* every other call */
-#define TAQWELIM_STACK_MAX 10240  /* every call */
+#define TAQWELIM_STACK_MAX 12288  /* every call */
 
 /* ---- taps: bit i is tap i; below 2^25, with tap 0 set */
 #define TAQWELIM_TAPS_0_AND_3 UINT32_C(9)
@@ -84,16 +87,16 @@
 enum taqwelim_refusal {
     TAQWELIM_NOT_REFUSED = 0,
     TAQWELIM_REFUSED_TAPS = 1,          /* taps at or above 2^25, or tap 0 clear */
-    TAQWELIM_REFUSED_LENGTH = 2,        /* a frame, an area, a bare header or a lent buffer of the wrong length */
+    TAQWELIM_REFUSED_LENGTH = 2,        /* a frame or its part, an area, a bare header or a buffer of a wrong length */
     TAQWELIM_REFUSED_STATE = 3,         /* the queue is not whole with this state, or these are no receiver's numbers */
     TAQWELIM_REFUSED_PACKET = 4,        /* a packet of 0 or above 9,000 bytes */
     TAQWELIM_REFUSED_FULL = 5,          /* no room in the queue: used + 2 + length is above 32,768 */
     TAQWELIM_REFUSED_FIELD = 6,         /* a field to send is too large for its bits or against its rule */
     TAQWELIM_REFUSED_PREAMBLE = 7,      /* the preamble differs */
-    TAQWELIM_REFUSED_HEADER_CODE = 8,   /* the coded header is no codeword */
+    TAQWELIM_REFUSED_HEADER_CODE = 8,   /* no codeword within 8 byte differences of the coded header */
     TAQWELIM_REFUSED_HEADER_CRC = 9,    /* the CRC-16 differs */
     TAQWELIM_REFUSED_FIELD_RULE = 11,   /* a received field is against its rule, or no opening gives this header */
-    TAQWELIM_REFUSED_PAYLOAD_CODE = 12, /* one of the eight payload words is no codeword */
+    TAQWELIM_REFUSED_PAYLOAD_CODE = 12, /* no codeword within 8 byte differences of one of the eight payload words */
     TAQWELIM_REFUSED_PAYLOAD_CRC = 13,  /* the CRC-32 differs */
     TAQWELIM_REFUSED_PACKING = 14,      /* a DATA area against the packing rules */
     TAQWELIM_REFUSED_TOO_LONG = 15,     /* a held part and the record that continues it pass a packet's length */
@@ -243,17 +246,42 @@ taqwelim_receiver taqwelim_fresh_receiver(void) TAQWELIM_NO_THROW;
 
 typedef struct taqwelim_open_answer {
     taqwelim_header header; /* the frame's; zeros where it is refused, which apply would take for an IDLE frame */
+    uint8_t repaired;       /* bytes of the frame that were wrong, 0 to 72 */
     uint8_t refusal;
 } taqwelim_open_answer;
 
-/* Opens a frame of 2,081 bytes, whatever its reserved bits. The 1,908 bytes of its data area are written to the front
- * of area; bytes past them keep their values. No receiver and no hold is lent: to a monitor that wants no more than
- * headers and areas, this call is enough.
+/* Opens a frame of 2,081 bytes, whatever its reserved bits. Up to 8 wrong bytes of its coded header, and of each of its
+ * eight payload words, are repaired in a copy; the preamble is not. The 1,908 bytes of its data area, as repaired, are
+ * written to the front of area; bytes past them keep their values. No receiver and no hold is lent: to a monitor that
+ * wants no more than headers and areas, this call is enough.
  * Refuses: 1 the taps; 2 frame_length is not 2,081, or area_length is under 1,908; 7, 8, 9, 11, 12 and 13 what the
- * frame holds. */
+ * frame holds: 9 and 11 by the header as repaired, 13 by the payload as repaired. */
 TAQWELIM_NO_DISCARD
 taqwelim_open_answer taqwelim_open(uint32_t taps, const uint8_t *frame, size_t frame_length, uint8_t *area,
                                    size_t area_length) TAQWELIM_NO_THROW;
+
+typedef struct taqwelim_repair_answer {
+    uint8_t repaired; /* bytes of the part that were wrong, 0 to 72 */
+    uint8_t refusal;
+} taqwelim_repair_answer;
+
+/* Repairs the part of a frame after its preamble, which open does by itself: for a program that keeps frames. The coded
+ * header is 32 bytes of the part, and a payload word every eighth byte of the 2,040 behind them; up to 8 wrong bytes of
+ * each are repaired. Where repaired is 0, the part itself is right, and the scratch keeps its bytes. Otherwise the part
+ * as repaired, scrambled as it came, is written to the front of scratch; bytes past its 2,072 keep their values. No
+ * check sum is judged: more than 8 wrong bytes may lie within 8 of another codeword, and open refuses what then comes.
+ * Refuses: 1 the taps; 2 part_length is not 2,072, or scratch_length is under 2,072; 8 no codeword is near
+ * the coded header, and one that changes any of the 223 bytes that are not sent does not count; 12 none is near a
+ * payload word.
+ *
+ *     uint8_t *part = frame + TAQWELIM_PREAMBLE_SIZE, scratch[TAQWELIM_PART_SIZE];
+ *     taqwelim_repair_answer answer = taqwelim_repair(TAQWELIM_TAPS_0_AND_3, part, TAQWELIM_PART_SIZE,
+ *                                                     scratch, sizeof scratch);
+ *     if (!answer.refusal)
+ *         use(answer.repaired ? scratch : part, TAQWELIM_PART_SIZE); */
+TAQWELIM_NO_DISCARD
+taqwelim_repair_answer taqwelim_repair(uint32_t taps, const uint8_t *part, size_t part_length, uint8_t *scratch,
+                                       size_t scratch_length) TAQWELIM_NO_THROW;
 
 typedef struct taqwelim_apply_answer {
     taqwelim_receiver receiver; /* expects the number after the frame's */

@@ -1,5 +1,5 @@
 /* The header file as every standard of C and C++ takes it. tests/run compiles this by each, with every warning an error, and again with DROP_ANSWERS
- * defined: then each of the 8 calls that answer with a refusal has to be warned of. */
+ * defined: then each of the 9 calls that answer with a refusal has to be warned of. */
 #include "../include/taqwelim.h"
 #include "../include/taqwelim.h" /* again, as another header file may */
 
@@ -33,6 +33,7 @@ unsigned every_call(uint8_t *bytes, size_t length)
     ANSWERED(taqwelim_waiting(bytes, length, sender));
     ANSWERED(taqwelim_next_frame(TAQWELIM_TAPS_0_AND_3, fields, sender, bytes, length, bytes, length));
     ANSWERED(taqwelim_open(TAQWELIM_TAPS_0_AND_3, bytes, length, bytes, length));
+    ANSWERED(taqwelim_repair(TAQWELIM_TAPS_0_AND_3, bytes, length, bytes, length));
     ANSWERED(taqwelim_apply(header, bytes, length, receiver, bytes, length, bytes, length));
     ANSWERED(taqwelim_entry(bytes, length, 0));
     ANSWERED(taqwelim_code_header(header, bytes, length));

@@ -4,7 +4,7 @@
 #include <stdio.h>
 #include <string.h>
 
-lent queue, packet, out, frame, area_bytes, hold, list, header_bytes;
+lent queue, packet, out, frame, area_bytes, hold, list, header_bytes, part, scratch;
 unsigned long calls, comparisons, differences, given[NUMBER_OF_CALLS][256];
 unsigned long opened_applied, opened_refused_with_11;
 
@@ -67,7 +67,7 @@ static void fill_with_chance(lent *buffer)
 
 void fill_all(void)
 {
-    lent *all[] = {&queue, &packet, &out, &frame, &area_bytes, &hold, &list, &header_bytes};
+    lent *all[] = {&queue, &packet, &out, &frame, &area_bytes, &hold, &list, &header_bytes, &part, &scratch};
     for (size_t i = 0; i < sizeof all / sizeof all[0]; i++)
         fill_with_chance(all[i]);
 }
@@ -163,7 +163,7 @@ uint8_t both_next(uint32_t taps, taqwelim_fields fields, taqwelim_sender *sender
     return ended(NEXT_FRAME, a.refusal);
 }
 
-uint8_t both_open(uint32_t taps, size_t frame_length, size_t area_length, taqwelim_header *header)
+uint8_t both_open(uint32_t taps, size_t frame_length, size_t area_length, taqwelim_open_answer *answer)
 {
     taqwelim_open_answer a = library_open(taps, to_library(&frame, frame_length), frame_length,
                                           to_library(&area_bytes, area_length), area_length);
@@ -171,10 +171,24 @@ uint8_t both_open(uint32_t taps, size_t frame_length, size_t area_length, taqwel
         model_open(taps, model_bytes_of(&frame), frame_length, model_bytes_of(&area_bytes), area_length);
     expect(a.refusal == b.refusal, "open's refusal");
     expect(same_header(a.header, b.header), "open's header");
+    expect(a.repaired == b.repaired, "open's count of repaired bytes");
     compare_bytes(&frame, "the frame after open");
     compare_bytes(&area_bytes, "the area after open");
-    *header = a.header;
+    *answer = a;
     return ended(OPEN, a.refusal);
+}
+
+uint8_t both_repair(uint32_t taps, size_t part_length, size_t scratch_length, taqwelim_repair_answer *answer)
+{
+    taqwelim_repair_answer a = library_repair(taps, to_library(&part, part_length), part_length,
+                                              to_library(&scratch, scratch_length), scratch_length);
+    taqwelim_repair_answer b =
+        model_repair(taps, model_bytes_of(&part), part_length, model_bytes_of(&scratch), scratch_length);
+    expect(a.refusal == b.refusal && a.repaired == b.repaired, "repair's answer");
+    compare_bytes(&part, "the part after repair");
+    compare_bytes(&scratch, "the scratch after repair");
+    *answer = a;
+    return ended(REPAIR, a.refusal);
 }
 
 uint8_t both_apply(taqwelim_header header, size_t area_length, taqwelim_receiver *receiver, size_t hold_length,
@@ -204,13 +218,13 @@ uint8_t both_apply_opened(taqwelim_header header, size_t area_length, taqwelim_r
     return refusal;
 }
 
-uint8_t both_receive(taqwelim_receiver *receiver, taqwelim_header *header, taqwelim_apply_answer *answer)
+uint8_t both_receive(taqwelim_receiver *receiver, taqwelim_open_answer *opened, taqwelim_apply_answer *answer)
 {
-    uint8_t refusal = both_open(TAQWELIM_TAPS_0_AND_3, TAQWELIM_FRAME_SIZE, AREA, header);
+    uint8_t refusal = both_open(TAQWELIM_TAPS_0_AND_3, TAQWELIM_FRAME_SIZE, AREA, opened);
     *answer = (taqwelim_apply_answer){.receiver = *receiver, .refusal = refusal};
     if (refusal)
         return refusal;
-    return both_apply_opened(*header, AREA, receiver, TAQWELIM_HOLD_SIZE, TAQWELIM_LIST_MIN, answer);
+    return both_apply_opened(opened->header, AREA, receiver, TAQWELIM_HOLD_SIZE, TAQWELIM_LIST_MIN, answer);
 }
 
 uint8_t both_entry(size_t list_length, size_t position, taqwelim_entry_answer *answer)

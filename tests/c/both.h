@@ -14,10 +14,10 @@ typedef struct {
     uint8_t model[AROUND + ROOM + AROUND];
 } lent;
 
-extern lent queue, packet, out, frame, area_bytes, hold, list, header_bytes;
+extern lent queue, packet, out, frame, area_bytes, hold, list, header_bytes, part, scratch;
 
 /* ---- counts */
-enum call { PUT, WAITING, NEXT_FRAME, OPEN, APPLY, ENTRY, CODE_HEADER, READ_HEADER, NUMBER_OF_CALLS };
+enum call { PUT, WAITING, NEXT_FRAME, OPEN, REPAIR, APPLY, ENTRY, CODE_HEADER, READ_HEADER, NUMBER_OF_CALLS };
 extern unsigned long calls, comparisons, differences;
 extern unsigned long given[NUMBER_OF_CALLS][256];                 /* how often each call ended with each number */
 extern unsigned long opened_applied, opened_refused_with_11;      /* headers that open gave and apply got */
@@ -45,7 +45,8 @@ uint8_t both_put(size_t queue_length, taqwelim_sender *sender, size_t packet_len
 uint8_t both_waiting(size_t queue_length, taqwelim_sender sender, taqwelim_waiting_answer *answer);
 void expect_waiting(taqwelim_sender sender, size_t packets, size_t bytes);
 uint8_t both_next(uint32_t taps, taqwelim_fields fields, taqwelim_sender *sender, size_t queue_length, size_t out_length);
-uint8_t both_open(uint32_t taps, size_t frame_length, size_t area_length, taqwelim_header *header);
+uint8_t both_open(uint32_t taps, size_t frame_length, size_t area_length, taqwelim_open_answer *answer);
+uint8_t both_repair(uint32_t taps, size_t part_length, size_t scratch_length, taqwelim_repair_answer *answer);
 uint8_t both_apply(taqwelim_header header, size_t area_length, taqwelim_receiver *receiver, size_t hold_length,
                    size_t list_length, taqwelim_apply_answer *answer);
 uint8_t both_apply_opened(taqwelim_header header, size_t area_length, taqwelim_receiver *receiver, size_t hold_length,
@@ -56,11 +57,12 @@ uint8_t both_read(size_t length, taqwelim_header *header);
 
 /* ---- the frame at hand received: opened, and what was opened applied. The first refusal stands; where it is open's,
  *      the answer has the state as it was, and zeros. */
-uint8_t both_receive(taqwelim_receiver *receiver, taqwelim_header *header, taqwelim_apply_answer *answer);
+uint8_t both_receive(taqwelim_receiver *receiver, taqwelim_open_answer *opened, taqwelim_apply_answer *answer);
 
 /* ---- the tests */
 void try_numbers(void);
 void try_refusals(void);
+void try_repair(void);
 void try_session(unsigned long frames);
 void try_chance(unsigned long rounds);
 void try_ring(unsigned long frames);

@@ -1,5 +1,5 @@
 /* Calls at random: lengths, states, fields and bytes that are right, nearly right or anything. The model says what each has to do. */
-#include "both.h"
+#include "damage.h"
 
 #include <string.h>
 
@@ -142,6 +142,21 @@ static void some_area(uint8_t *area)
         area[below(AREA)] = (uint8_t)chance();
 }
 
+/* Wrong bytes in the words, few or too many; or one anywhere. */
+static void some_damage(uint8_t *bytes)
+{
+    switch (below(4)) {
+    case 0:
+        bytes[below(TAQWELIM_FRAME_SIZE)] ^= (uint8_t)chance();
+        break;
+    case 1:
+        damage_repairable(bytes, 0);
+        break;
+    default:
+        damage_word(bytes, (int)below(WORDS), below(14));
+    }
+}
+
 static void make_frame(uint32_t taps)
 {
     uint8_t header[16], area[AREA], data[DATA], bytes[TAQWELIM_FRAME_SIZE];
@@ -158,8 +173,8 @@ static void make_frame(uint32_t taps)
     if (below(20) == 0)
         data[below(DATA)] ^= (uint8_t)chance();
     model_frame(taps, header, data, bytes);
-    if (below(12) == 0)
-        bytes[below(sizeof bytes)] ^= (uint8_t)chance();
+    if (below(4) == 0)
+        some_damage(bytes);
     set_bytes(&frame, 0, bytes, sizeof bytes);
 }
 
@@ -190,15 +205,33 @@ static void some_apply(taqwelim_apply_answer *answer)
                "apply refuses with 11 the headers that code_header refuses with 6");
 }
 
+/* The part of the frame at hand, whatever that holds; where it is repaired, the frame opens as before, and has nothing
+ * wrong in it. */
+static void some_repair(uint32_t taps)
+{
+    taqwelim_repair_answer repaired;
+    taqwelim_open_answer before, after;
+    set_bytes(&part, 0, bytes_of(&frame) + TAQWELIM_PREAMBLE_SIZE, PART);
+    if (both_repair(taps, mostly(PART), mostly(PART), &repaired) || !repaired.repaired)
+        return;
+    both_open(taps, TAQWELIM_FRAME_SIZE, AREA, &before);
+    set_bytes(&frame, TAQWELIM_PREAMBLE_SIZE, bytes_of(&scratch), PART);
+    both_open(taps, TAQWELIM_FRAME_SIZE, AREA, &after);
+    expect(before.refusal == after.refusal && same_header(before.header, after.header), "a part that is repaired opens as before");
+    expect(after.repaired == 0 && before.repaired == (before.refusal ? 0 : repaired.repaired), "and open counts what repair counts");
+}
+
 static void some_open(taqwelim_apply_answer *answer)
 {
-    taqwelim_header header;
+    taqwelim_open_answer opened;
     uint32_t taps = some_taps();
     if (model_taps_allowed(taps) && below(20))
         make_frame(taps);
-    if (both_open(taps, mostly(TAQWELIM_FRAME_SIZE), mostly(AREA), &header) == 0)
-        both_apply_opened(header, mostly(AREA), &receiver, mostly(TAQWELIM_HOLD_SIZE), mostly(TAQWELIM_LIST_MIN),
-                          answer);
+    if (below(3) == 0)
+        some_repair(taps);
+    if (both_open(taps, mostly(TAQWELIM_FRAME_SIZE), mostly(AREA), &opened) == 0)
+        both_apply_opened(opened.header, mostly(AREA), &receiver, mostly(TAQWELIM_HOLD_SIZE),
+                          mostly(TAQWELIM_LIST_MIN), answer);
 }
 
 static void some_entries(size_t listed)

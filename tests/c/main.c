@@ -21,6 +21,7 @@ static const struct {
     [WAITING] = {"waiting", {0, 2, 3}},
     [NEXT_FRAME] = {"next_frame", {0, 1, 2, 3, 6}},
     [OPEN] = {"open", {0, 1, 2, 7, 8, 9, 11, 12, 13}},
+    [REPAIR] = {"repair", {0, 1, 2, 8, 12}},
     [APPLY] = {"apply", {0, 2, 3, 11, 14, 15}},
     [ENTRY] = {"entry", {0, 16}},
     [CODE_HEADER] = {"code_header", {0, 2, 6}},
@@ -56,6 +57,8 @@ int main(int argc, char **argv)
     say("numbers to try");
     try_refusals();
     say("refusals");
+    try_repair();
+    say("repair");
     try_session(5000);
     say("session");
     try_chance(4000);

@@ -51,20 +51,28 @@ uint8_t model_power(unsigned exponent)
     return powers[exponent % 255];
 }
 
-static uint8_t product(uint8_t a, uint8_t b)
+uint8_t model_product(uint8_t a, uint8_t b)
 {
+    make_powers();
     return a && b ? powers[exponents[a] + exponents[b]] : 0;
+}
+
+/* b is not 0. */
+uint8_t model_quotient(uint8_t a, uint8_t b)
+{
+    make_powers();
+    return a ? powers[exponents[a] + 255 - exponents[b]] : 0;
 }
 
 /* ---- the code of 255 bytes with roots 2^(11 j), j from 120 to 135 */
 
-static uint8_t root(int j)
+uint8_t model_root(int j)
 {
     return model_power(11u * (120u + (unsigned)j));
 }
 
 /* The product of the 16 factors, highest power first. */
-static const uint8_t *generator(void)
+const uint8_t *model_generator(void)
 {
     static uint8_t g[17];
     if (g[0])
@@ -72,7 +80,7 @@ static const uint8_t *generator(void)
     g[0] = 1;
     for (int j = 0; j < 16; j++)
         for (int k = j + 1; k > 0; k--)
-            g[k] ^= product(g[k - 1], root(j));
+            g[k] ^= model_product(g[k - 1], model_root(j));
     return g;
 }
 
@@ -80,14 +88,13 @@ static const uint8_t *generator(void)
 void model_parity(const uint8_t *data, size_t length, size_t step, uint8_t *parity)
 {
     uint8_t rest[16] = {0};
-    make_powers();
-    const uint8_t *g = generator();
+    const uint8_t *g = model_generator();
     for (size_t i = 0; i < length; i++) {
         uint8_t lead = data[i * step] ^ rest[0];
         memmove(rest, rest + 1, 15);
         rest[15] = 0;
         for (int k = 0; lead && k < 16; k++)
-            rest[k] ^= product(lead, g[k + 1]);
+            rest[k] ^= model_product(lead, g[k + 1]);
     }
     for (size_t k = 0; k < 16; k++)
         parity[k * step] = rest[k];
@@ -96,16 +103,15 @@ void model_parity(const uint8_t *data, size_t length, size_t step, uint8_t *pari
 static uint8_t at_root(const uint8_t *bytes, size_t length, size_t step, uint8_t x, uint8_t value)
 {
     for (size_t i = 0; i < length; i++)
-        value = product(value, x) ^ bytes[i * step];
+        value = model_product(value, x) ^ bytes[i * step];
     return value;
 }
 
 /* Each of the 16 roots is a root of the word. */
 int model_is_codeword(const uint8_t *data, size_t length, const uint8_t *parity, size_t step)
 {
-    make_powers();
     for (int j = 0; j < 16; j++)
-        if (at_root(parity, 16, step, root(j), at_root(data, length, step, root(j), 0)))
+        if (at_root(parity, 16, step, model_root(j), at_root(data, length, step, model_root(j), 0)))
             return 0;
     return 1;
 }

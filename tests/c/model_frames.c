@@ -1,4 +1,4 @@
-/* The model's headers and frames, both ways (paper 01, "The frame on the wire"; paper 02, M-100 and M-106). */
+/* The model's headers and frames, both ways (paper 01, "The frame on the wire"; paper 02, M-100, M-101 and M-106). */
 #include "model.h"
 
 #include <string.h>
@@ -137,24 +137,20 @@ void model_frame(uint32_t taps, const uint8_t *header, const uint8_t *data, uint
     memcpy(payload, data, DATA);
     for (size_t word = 0; word < 8; word++)
         model_parity(payload + word, DATA / 8, 8, payload + DATA + word);
-    model_scramble(taps, body, 2072);
+    model_scramble(taps, body, PART);
 }
 
-/* 7 to 9 and 11 to 13, of the preamble and of what is behind it without the scrambler's bits; 0 for none. */
-static uint8_t frame_refusal(const uint8_t *frame, const uint8_t *body)
+/* 8, 9 and 11 to 13, of what is behind a preamble without the scrambler's bits, which is repaired on the way; 0 for none. */
+static uint8_t body_refusal(uint8_t *body)
 {
-    const uint8_t *payload = body + 32;
-    uint8_t refusal;
-    if (memcmp(frame, preamble, 9))
-        return 7;
-    if (!model_is_codeword(body, 16, body + 16, 1))
+    uint8_t *payload = body + CODED_HEADER, refusal;
+    if (!model_repair_header(body))
         return 8;
     refusal = model_header_refusal(body);
     if (refusal)
         return refusal;
-    for (size_t word = 0; word < 8; word++)
-        if (!model_is_codeword(payload + word, DATA / 8, payload + DATA + word, 8))
-            return 12;
+    if (!model_repair_payload(payload))
+        return 12;
     return model_crc_32(payload, DATA) ? 13 : 0;
 }
 
@@ -162,19 +158,49 @@ taqwelim_open_answer model_open(uint32_t taps, const uint8_t *frame, size_t fram
                                 size_t area_length)
 {
     taqwelim_open_answer answer = {0};
-    uint8_t body[2072];
+    uint8_t came[PART], body[PART];
     if (!model_taps_allowed(taps))
         answer.refusal = 1;
     else if (frame_length != TAQWELIM_FRAME_SIZE || area_length < AREA)
         answer.refusal = 2;
+    else if (memcmp(frame, preamble, 9))
+        answer.refusal = 7;
     if (answer.refusal)
         return answer;
-    memcpy(body, frame + 9, sizeof body);
-    model_scramble(taps, body, sizeof body);
-    answer.refusal = frame_refusal(frame, body);
+    memcpy(came, frame + 9, PART);
+    model_scramble(taps, came, PART);
+    memcpy(body, came, PART);
+    answer.refusal = body_refusal(body);
     if (answer.refusal)
         return answer;
     answer.header = model_header_of(body);
-    memcpy(area, body + 32, AREA);
+    answer.repaired = (uint8_t)model_differences(came, body, PART);
+    memcpy(area, body + CODED_HEADER, AREA);
+    return answer;
+}
+
+taqwelim_repair_answer model_repair(uint32_t taps, const uint8_t *part, size_t part_length, uint8_t *scratch,
+                                    size_t scratch_length)
+{
+    taqwelim_repair_answer answer = {0};
+    uint8_t body[PART];
+    if (!model_taps_allowed(taps))
+        answer.refusal = 1;
+    else if (part_length != PART || scratch_length < PART)
+        answer.refusal = 2;
+    if (answer.refusal)
+        return answer;
+    memcpy(body, part, PART);
+    model_scramble(taps, body, PART);
+    if (!model_repair_header(body))
+        answer.refusal = 8;
+    else if (!model_repair_payload(body + CODED_HEADER))
+        answer.refusal = 12;
+    if (answer.refusal)
+        return answer;
+    model_scramble(taps, body, PART);
+    answer.repaired = (uint8_t)model_differences(part, body, PART);
+    if (answer.repaired)
+        memcpy(scratch, body, PART);
     return answer;
 }

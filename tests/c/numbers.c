@@ -133,8 +133,10 @@ static void filling(size_t start)
 /* The frame that was sent arrives. */
 static void receive_sent(taqwelim_receiver *receiver, taqwelim_header *header, taqwelim_apply_answer *answer)
 {
+    taqwelim_open_answer opened;
     set_bytes(&frame, 0, bytes_of(&out), TAQWELIM_FRAME_SIZE);
-    expect(both_receive(receiver, header, answer) == 0, "a frame that was sent is received");
+    expect(both_receive(receiver, &opened, answer) == 0 && opened.repaired == 0, "a frame that was sent is received");
+    *header = opened.header;
 }
 
 static void receiving(void)

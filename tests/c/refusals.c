@@ -1,6 +1,7 @@
 /* Every refusal number of every call, by itself and against the others of its call: the first in the call's order is
  * given, and no state and no byte changes. Here those of sending and of coding a header; of open in refusals_opening.c,
- * of apply in refusals_applying.c, of the two one after the other and of reading in refusals_received.c. */
+ * of repair in refusals_repairing.c, of apply in refusals_applying.c, of open and apply one after the other and of reading
+ * in refusals_received.c. */
 #include "refusals.h"
 
 #include <string.h>
@@ -9,7 +10,7 @@ static const uint32_t taps = TAQWELIM_TAPS_0_AND_3;
 
 /* ---- all that is lent, before a call and after it */
 
-static lent *const all[] = {&queue, &packet, &out, &frame, &area_bytes, &hold, &list, &header_bytes};
+static lent *const all[] = {&queue, &packet, &out, &frame, &area_bytes, &hold, &list, &header_bytes, &part, &scratch};
 enum { LENT = sizeof all / sizeof all[0] };
 static lent before[LENT];
 
@@ -202,6 +203,7 @@ void try_refusals(void)
     next();
     fields();
     try_opening_refusals();
+    try_repairing_refusals();
     try_applying_refusals();
     try_received_refusals();
 }

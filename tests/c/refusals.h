@@ -17,12 +17,14 @@ uint8_t first_of(const uint8_t *order, unsigned wrong);                 /* an or
 /* ---- frames and areas */
 const uint8_t *area_of(unsigned mark);                                  /* one record with this mark, and zeros */
 void forge(uint8_t kind, const uint8_t *area, unsigned wrong);          /* frame 7, with what 7 to 13 are given for */
+size_t forge_damaged(uint8_t kind, const uint8_t *area, unsigned wrong); /* and up to 8 wrong bytes in the other words */
 
 void apply_refused(uint8_t wanted, taqwelim_header header, size_t area_length, taqwelim_receiver receiver,
                    size_t hold_length, size_t list_length);
 void header_refused(taqwelim_header header); /* by apply, whatever its area: no opening gives it */
 
 void try_opening_refusals(void);
+void try_repairing_refusals(void);
 void try_applying_refusals(void);
 void try_received_refusals(void);
 

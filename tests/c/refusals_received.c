@@ -46,15 +46,15 @@ static void read(void)
 /* The frame at hand is opened, and what was opened applied to this: numbers of the frame are open's, others apply's. */
 static void receive_refused(uint8_t wanted, taqwelim_receiver receiver, size_t hold_length, size_t list_length)
 {
-    taqwelim_header header;
+    taqwelim_open_answer opened;
     keep();
-    uint8_t number = both_open(taps, 2081, 1908, &header);
+    uint8_t number = both_open(taps, 2081, 1908, &opened);
     if (wanted >= TAQWELIM_REFUSED_PREAMBLE && wanted <= TAQWELIM_REFUSED_PAYLOAD_CRC) {
         refused(number, wanted, "open is refused");
         return;
     }
     expect(number == 0, "open is not refused");
-    apply_refused(wanted, header, 1908, receiver, hold_length, list_length);
+    apply_refused(wanted, opened.header, 1908, receiver, hold_length, list_length);
 }
 
 /* What is wrong with a frame is told before what is wrong with receiver, hold and list, and that before what is wrong
@@ -100,7 +100,8 @@ static void set_frame(const uint8_t *header)
 static void read_both_ways(uint8_t wanted, const uint8_t *bytes, taqwelim_header header)
 {
     taqwelim_receiver receiver = library_fresh_receiver();
-    taqwelim_header found, came;
+    taqwelim_header found;
+    taqwelim_open_answer came;
     taqwelim_apply_answer answer;
     set_bytes(&header_bytes, 0, bytes, 16);
     set_frame(bytes);
@@ -108,7 +109,7 @@ static void read_both_ways(uint8_t wanted, const uint8_t *bytes, taqwelim_header
     expect(both_receive(&receiver, &came, &answer) == wanted, "a frame with these reserved bits");
     if (wanted)
         return;
-    expect(same_header(found, header) && same_header(came, header), "the same header, whatever the reserved bits");
+    expect(same_header(found, header) && same_header(came.header, header), "the same header, whatever the reserved bits");
     expect(answer.packets == 1 && answer.listed == 3, "and the frame's packet");
 }
 
@@ -138,10 +139,10 @@ static void reserved_bits(void)
 static void receive_accepted(unsigned mark, size_t held, size_t left, size_t listed)
 {
     taqwelim_receiver receiver = {held, 7, 1};
-    taqwelim_header header;
+    taqwelim_open_answer opened;
     taqwelim_apply_answer answer;
     forge(TAQWELIM_KIND_DATA, area_of(mark), 0);
-    expect(both_receive(&receiver, &header, &answer) == 0, "the frame is not refused");
+    expect(both_receive(&receiver, &opened, &answer) == 0, "the frame is not refused");
     expect(answer.receiver.held == left && answer.listed == listed, "what is held and listed then");
 }
 
@@ -155,10 +156,10 @@ static void edges(void)
     receive_accepted(0x8772, 8999, 1906, 0);
     uint8_t area[AREA] = {0x40, 0x01, 0xAB, 0xC7, 0x6F};
     taqwelim_receiver receiver = {8999, 7, 1};
-    taqwelim_header header;
+    taqwelim_open_answer opened;
     taqwelim_apply_answer answer;
     forge(TAQWELIM_KIND_DATA, area, 0);
-    expect(both_receive(&receiver, &header, &answer) == 0, "the longest list is not refused");
+    expect(both_receive(&receiver, &opened, &answer) == 0, "the longest list is not refused");
     expect(answer.listed == 10907 && answer.packets == 2, "the longest list");
 }
 

@@ -1,7 +1,7 @@
-/* A session over a shaken beam: packets are put, frames are sent, some are lost in bursts and some damaged. Beside the
- * model, a ledger that only counts bytes says which packets have to come out of which frame: those of which no frame was
- * lost, in order, and no other. */
-#include "both.h"
+/* A session over a shaken beam: packets are put, frames are sent, some are lost in bursts and some damaged, of which
+ * those with at most 8 wrong bytes in a word are repaired. Beside the model, a ledger that only counts bytes says which
+ * packets have to come out of which frame: those of which no frame was lost, in order, and no other. */
+#include "damage.h"
 
 #include <stdio.h>
 #include <string.h>
@@ -110,23 +110,35 @@ static unsigned long compare_list(taqwelim_apply_answer answer, unsigned long lo
     return found;
 }
 
-/* Now and then a bit of the frame that arrives is turned; whether it was. */
-static int is_damaged(void)
+/* The frame that was sent arrives. Now and then a word of it has more wrong bytes than are repaired, or its preamble has
+ * a wrong bit; more often it has some that are, in one word or in all. Whether it is beyond repair, and how many of its
+ * bytes are wrong where it is not. */
+static int is_beyond_repair(size_t *wrong)
 {
-    if (below(50))
-        return 0;
-    size_t at = below(TAQWELIM_FRAME_SIZE);
-    set_byte(&frame, at, bytes_of(&frame)[at] ^ (uint8_t)(1u << below(8)));
-    return 1;
+    uint8_t bytes[TAQWELIM_FRAME_SIZE];
+    size_t kind = below(100);
+    *wrong = 0;
+    memcpy(bytes, bytes_of(&out), sizeof bytes);
+    if (kind == 0)
+        bytes[below(TAQWELIM_PREAMBLE_SIZE)] ^= (uint8_t)(1u << below(8));
+    else if (kind == 1)
+        damage_word(bytes, (int)below(WORDS), REPAIRABLE + 1 + below(20));
+    else if (kind < 6)
+        damage_word(bytes, (int)below(WORDS), *wrong = 1 + below(REPAIRABLE));
+    else if (kind < 10)
+        *wrong = damage_repairable(bytes, 0);
+    set_bytes(&frame, 0, bytes, sizeof bytes);
+    return kind < 2;
 }
 
 void try_session(unsigned long frames)
 {
-    unsigned long lost = 0, damaged = 0, delivered = 0, accepted = 0, after_lost = 0, last_accepted = 0;
+    unsigned long lost = 0, damaged = 0, repaired = 0, delivered = 0, accepted = 0, after_lost = 0, last_accepted = 0;
     int shaken = 0;
+    size_t wrong;
     taqwelim_sender sender = library_fresh_sender();
     taqwelim_receiver receiver = library_fresh_receiver();
-    taqwelim_header header;
+    taqwelim_open_answer opened;
     taqwelim_apply_answer answer;
     sender.next = FIRST_NUMBER;
     fill_all();
@@ -140,20 +152,22 @@ void try_session(unsigned long frames)
             after_lost = k + 1;
             continue;
         }
-        set_bytes(&frame, 0, bytes_of(&out), TAQWELIM_FRAME_SIZE);
-        if (is_damaged()) {
+        if (is_beyond_repair(&wrong)) {
             damaged++;
             after_lost = k + 1;
-            expect(both_receive(&receiver, &header, &answer) != 0, "a damaged frame is refused");
+            expect(both_receive(&receiver, &opened, &answer) != 0, "a frame beyond repair is refused");
             continue;
         }
-        expect(both_receive(&receiver, &header, &answer) == 0, "a whole frame is accepted");
-        expect(header.txfn == (uint16_t)(FIRST_NUMBER + k), "the header has the frame's number");
+        expect(both_receive(&receiver, &opened, &answer) == 0, "a frame that is whole or repaired is accepted");
+        expect(opened.repaired == wrong, "the count of its wrong bytes");
+        expect(opened.header.txfn == (uint16_t)(FIRST_NUMBER + k), "the header has the frame's number");
+        repaired += wrong > 0;
         expect(answer.missed == (accepted ? k - last_accepted - 1 : 0), "the missed count is the number of frames lost");
         accepted++;
         last_accepted = k;
         delivered += compare_list(answer, after_lost);
     }
-    printf("session: %lu frames sent, %lu lost, %lu damaged, %lu accepted; %lu packets put, %lu sent whole, %lu delivered\n", frames, lost, damaged, accepted,
-           put_count, front, delivered);
+    printf("session: %lu frames sent, %lu lost, %lu beyond repair, %lu accepted, of which %lu repaired; "
+           "%lu packets put, %lu sent whole, %lu delivered\n",
+           frames, lost, damaged, accepted, repaired, put_count, front, delivered);
 }

@@ -24,6 +24,7 @@ static struct {
         taqwelim_next_answer next_frame;
         taqwelim_receiver fresh_receiver;
         taqwelim_open_answer open;
+        taqwelim_repair_answer repair;
         taqwelim_apply_answer apply;
         taqwelim_entry_answer entry;
         taqwelim_place packet;
@@ -63,6 +64,11 @@ static void fresh_receiver(void)
 static void open_frame(void)
 {
     it.answer.open = taqwelim_open(it.taps, it.bytes, it.length, it.out, it.out_length);
+}
+
+static void repair(void)
+{
+    it.answer.repair = taqwelim_repair(it.taps, it.bytes, it.length, it.out, it.out_length);
 }
 
 static void apply_opened(void)
@@ -112,6 +118,7 @@ static struct stack {
     {"next_frame", next_frame, TAQWELIM_STACK_NEXT_FRAME, {0}},
     {"fresh_receiver", fresh_receiver, TAQWELIM_STACK_OTHERS, {0}},
     {"open", open_frame, TAQWELIM_STACK_OPEN, {0}},
+    {"repair", repair, TAQWELIM_STACK_REPAIR, {0}},
     {"apply", apply_opened, TAQWELIM_STACK_OTHERS, {0}},
     {"entry", entry, TAQWELIM_STACK_OTHERS, {0}},
     {"packet", packet_place, TAQWELIM_STACK_OTHERS, {0}},
@@ -210,6 +217,14 @@ taqwelim_open_answer library_open(uint32_t taps, const uint8_t *frame, size_t fr
     it.taps = taps, it.bytes = frame, it.length = frame_length, it.out = area, it.out_length = area_length;
     make(open_frame);
     return it.answer.open;
+}
+
+taqwelim_repair_answer library_repair(uint32_t taps, const uint8_t *part, size_t part_length, uint8_t *scratch,
+                                      size_t scratch_length)
+{
+    it.taps = taps, it.bytes = part, it.length = part_length, it.out = scratch, it.out_length = scratch_length;
+    make(repair);
+    return it.answer.repair;
 }
 
 taqwelim_apply_answer library_apply(taqwelim_header header, const uint8_t *area, size_t area_length,

@@ -15,6 +15,8 @@ taqwelim_next_answer library_next_frame(uint32_t taps, taqwelim_fields fields, t
 taqwelim_receiver library_fresh_receiver(void);
 taqwelim_open_answer library_open(uint32_t taps, const uint8_t *frame, size_t frame_length, uint8_t *area,
                                   size_t area_length);
+taqwelim_repair_answer library_repair(uint32_t taps, const uint8_t *part, size_t part_length, uint8_t *scratch,
+                                      size_t scratch_length);
 taqwelim_apply_answer library_apply(taqwelim_header header, const uint8_t *area, size_t area_length,
                                     taqwelim_receiver receiver, uint8_t *hold, size_t hold_length, uint8_t *list,
                                     size_t list_length);

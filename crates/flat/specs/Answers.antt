@@ -9,6 +9,8 @@ use Rattle.list.specs.declared.EntryAnswer.{EntryAnswer}
 use Rattle.list.specs.declared.EntryAnswer.the-variants as entry
 use Rattle.opening.specs.declared.OpenAnswer.{OpenAnswer}
 use Rattle.opening.specs.declared.OpenAnswer.the-variants as opening
+use Rattle.repairing.specs.declared.RepairAnswer.{RepairAnswer}
+use Rattle.repairing.specs.declared.RepairAnswer.the-variants as repair
 use Rattle.receiver.specs.declared.ApplyAnswer.{ApplyAnswer}
 use Rattle.receiver.specs.declared.ApplyAnswer.the-variants as apply
 use Rattle.sender.specs.declared.PutAnswer.{PutAnswer}
@@ -25,6 +27,7 @@ use Rattle.flat.specs.declared.FlatPut.{FlatPut}
 use Rattle.flat.specs.declared.FlatWaiting.{FlatWaiting}
 use Rattle.flat.specs.declared.FlatNext.{FlatNext}
 use Rattle.flat.specs.declared.FlatOpen.{FlatOpen}
+use Rattle.flat.specs.declared.FlatRepair.{FlatRepair}
 use Rattle.flat.specs.declared.FlatApply.{FlatApply}
 use Rattle.flat.specs.declared.FlatCode.{FlatCode}
 use Rattle.flat.specs.declared.FlatRead.{FlatRead}
@@ -44,8 +47,12 @@ flatNext given (next.Sent sender kind) = record { sender = flatSender sender; ki
 flatNext given (next.Refused number) = record { sender = given; kind = 0; refusal = number }
 
 abbrev pub flatOpen : OpenAnswer → FlatOpen
-flatOpen (opening.Opened header) = record { header = flatHeader header; refusal = 0 }
-flatOpen (opening.Refused number) = record { header = noHeader; refusal = number }
+flatOpen (opening.Opened header repaired) = record { header = flatHeader header; repaired = repaired; refusal = 0 }
+flatOpen (opening.Refused number) = record { header = noHeader; repaired = 0; refusal = number }
+
+abbrev pub flatRepair : RepairAnswer → FlatRepair
+flatRepair (repair.Repaired count) = record { repaired = count; refusal = 0 }
+flatRepair (repair.Refused number) = record { repaired = 0; refusal = number }
 
 abbrev pub flatApply : FlatReceiver → ApplyAnswer → FlatApply
 flatApply given (apply.Applied missed packets listed receiver) = record {

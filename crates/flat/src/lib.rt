@@ -11,13 +11,14 @@ use headers::FlatHeader;
 use list::EntryAnswer;
 use opening::OpenAnswer;
 use receiver::ApplyAnswer;
+use repairing::RepairAnswer;
 use sender::PutAnswer;
 use sender::WaitingAnswer;
 use sending::NextAnswer;
 use states::FlatReceiver;
 use states::FlatSender;
 ghost use mathlib.Core.Path.{_≡_};
-ghost use Rattle.flat.specs.Answers.{flatPut, flatWaiting, flatNext, flatOpen, flatApply, flatCode, flatRead, flatEntry, flatPacket};
+ghost use Rattle.flat.specs.Answers.{flatPut, flatWaiting, flatNext, flatOpen, flatRepair, flatApply, flatCode, flatRead, flatEntry, flatPacket};
 
 #[repr(C)]
 pub struct FlatPut {
@@ -42,6 +43,13 @@ pub struct FlatNext {
 #[repr(C)]
 pub struct FlatOpen {
     pub header: FlatHeader,
+    pub repaired: u8,
+    pub refusal: u8,
+}
+
+#[repr(C)]
+pub struct FlatRepair {
+    pub repaired: u8,
     pub refusal: u8,
 }
 
@@ -134,12 +142,29 @@ pub fn flat_open(answer: OpenAnswer) -> FlatOpen
     ensures { λ r. ⌜ r ≡ flatOpen answer ⌝ }
 {
     match answer {
-        OpenAnswer::Opened(header) => FlatOpen {
+        OpenAnswer::Opened { header, repaired } => FlatOpen {
             header: headers::flat_header(header),
+            repaired,
             refusal: 0,
         },
         OpenAnswer::Refused(number) => FlatOpen {
             header: headers::no_header(),
+            repaired: 0,
+            refusal: number,
+        },
+    }
+}
+
+pub fn flat_repair(answer: RepairAnswer) -> FlatRepair
+    ensures { λ r. ⌜ r ≡ flatRepair answer ⌝ }
+{
+    match answer {
+        RepairAnswer::Repaired(count) => FlatRepair {
+            repaired: count,
+            refusal: 0,
+        },
+        RepairAnswer::Refused(number) => FlatRepair {
+            repaired: 0,
             refusal: number,
         },
     }

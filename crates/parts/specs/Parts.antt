@@ -4,10 +4,12 @@ use mathlib.Core.List.{List}
 use Prim.Native.Nat.{ℕ}
 use lib.Dec.{eqb, leb}
 use lib.ListN.{length, take}
+use Rattle.basics.specs.Lists.{entries}
 use Rattle.basics.specs.Sizes.{areaSize, frameSize}
 use Rattle.lent.specs.Refusals.{by}
 use Rattle.lent.specs.Written.{written}
 use Rattle.reed_solomon.specs.Payload.{codedPayload}
+use Rattle.reed_solomon.specs.Rows.{remainderByte}
 use Rattle.frame.specs.Frame.{frameBytes}
 use Rattle.opening.specs.Opening.{openRefusal, openedArea}
 use Rattle.header.specs.declared.Header.{Header}
@@ -33,6 +35,11 @@ plainHeader = record {
 -- a payload of 2,040 bytes with its parity; any other as it was
 abbrev pub parityOut : List ℕ → List ℕ
 parityOut payload = cond (eqb (length payload) 2040) (codedPayload (take 1912 payload)) payload
+
+-- the output with what division leaves of a payload's eight words at its front, where the payload has 2,040 bytes and the output 128 or more; otherwise as
+-- it was
+abbrev pub remaindersOut : List ℕ → List ℕ → List ℕ
+remaindersOut payload out = cond (eqb (length payload) 2040 && leb 128 (length out)) (written out 0 (entries (remainderByte payload) 0 128)) out
 
 -- the output with a frame at its front, where the area has 1,908 bytes and the output 2,081 or more; otherwise as it was
 abbrev pub builtOut : ℕ → List ℕ → List ℕ → List ℕ

@@ -6,15 +6,19 @@ use fast_channel::FastChannel;
 use header::Fields;
 use header::FrameKind;
 use header::Header;
+use header::coding;
 use opening::OpenAnswer;
 use reed_solomon::interleaving;
 ghost use mathlib.Core.Path.{_≡_};
+ghost use lib.ListN.{length};
+ghost use Rattle.basics.specs.Lists.{Bytes, isSome};
+ghost use Rattle.reed_solomon.specs.Code.{remainderOf};
+ghost use Rattle.nearest.specs.Near.{nearWord, repairedWord};
+ghost use Rattle.header.specs.Header.{flagBit};
 ghost use Rattle.crc.specs.Crc.{crc-32};
 ghost use Rattle.scrambler.specs.Scrambler.{scrambled};
-ghost use Rattle.reed_solomon.specs.Payload.{areCodewords};
 ghost use Rattle.opening.specs.Opening.{openRefusal, openNumber};
-ghost use Rattle.header.specs.Header.{flagBit};
-ghost use Rattle.parts.specs.Parts.{plainHeader, parityOut, builtOut, openedOut};
+ghost use Rattle.parts.specs.Parts.{plainHeader, parityOut, remaindersOut, builtOut, openedOut};
 
 #[no_mangle]
 pub extern "C" fn part_crc_32(bytes: &[u8]) -> u32
@@ -41,11 +45,37 @@ pub extern "C" fn part_write_parity(payload: &mut [u8])
     interleaving::write_parity(payload);
 }
 
+// What division leaves of the eight words; nothing where the payload does not have 2,040 bytes.
 #[no_mangle]
-pub extern "C" fn part_are_codewords(payload: &[u8]) -> u8
-    ensures { λ r. ⌜ r ≡ flagBit (areCodewords (now (payload .entry))) ⌝ }
+pub extern "C" fn part_remainders(payload: &[u8], out: &mut [u8])
+    ensures { λ _. ⌜ now (out .exit) ≡ remaindersOut (now (payload .entry)) (now (out .entry)) ⌝ }
 {
-    header::coding::bit_of(interleaving::are_codewords(payload))
+    if payload.len() != 2040 {
+        return;
+    }
+    if out.len() < 128 {
+        return;
+    }
+    lent::write_at(out, 0, &interleaving::remainders(payload));
+}
+
+// Repairs a payload word of which division left this, and tells whether a codeword was near. Only the count of instructions calls it, with a remainder that
+// it took from `part_remainders`; the library's calls for C have no `requires`.
+#[no_mangle]
+pub extern "C" fn part_repair_word(word: &mut [u8], remainder: &[u8]) -> u8
+    requires { ⌜ (length (now word) ≡ 255) × Bytes (now word) × (length (now remainder) ≡ 16) × (now remainder ≡ remainderOf (now word)) ⌝ }
+    ensures { λ r. ⌜ r ≡ flagBit (isSome (nearWord (now (word .entry)))) ⌝ }
+    ensures bytes { λ _. ⌜ now (word .exit) ≡ repairedWord (now (word .entry)) ⌝ }
+{
+    let mut own = [0u8; 255];
+    lent::write_at(&mut own, 0, word);
+    let mut left = [0u8; 16];
+    lent::write_at(&mut left, 0, remainder);
+    let near = nearest::repair_word(own, left);
+    let found = near.found;
+    let repaired = near.word;
+    lent::write_at(word, 0, &repaired);
+    coding::bit_of(found)
 }
 
 // DATA, frame 0, and nothing else to tell.
@@ -85,7 +115,10 @@ fn number_of(answer: OpenAnswer) -> u8
     ensures { λ r. ⌜ r ≡ openNumber answer ⌝ }
 {
     match answer {
-        OpenAnswer::Opened(header) => 0,
+        OpenAnswer::Opened {
+            header: _,
+            repaired: _,
+        } => 0,
         OpenAnswer::Refused(number) => number,
     }
 }

@@ -11,6 +11,8 @@ use Rattle.fast_channel.specs.Level.{levelOf}
 use Rattle.list.specs.Entries.{entryAnswer}
 use Rattle.opening.specs.Opening.{OpenOutcome}
 use Rattle.opening.specs.declared.OpenAnswer.{OpenAnswer}
+use Rattle.repairing.specs.Repairing.{RepairOutcome}
+use Rattle.repairing.specs.declared.RepairAnswer.{RepairAnswer}
 use Rattle.receiver.specs.Applying.{freshReceiver, ApplyOutcome}
 use Rattle.receiver.specs.declared.ApplyAnswer.{ApplyAnswer}
 use Rattle.sender.specs.Put.{freshSender, PutOutcome}
@@ -18,7 +20,7 @@ use Rattle.sender.specs.Waiting.{waitingAnswer}
 use Rattle.sending.specs.Next.{NextOutcome}
 use Rattle.sender.specs.declared.PutAnswer.{PutAnswer}
 use Rattle.sending.specs.declared.NextAnswer.{NextAnswer}
-use Rattle.flat.specs.Answers.{flatPut, flatWaiting, flatNext, flatOpen, flatApply, flatCode, flatRead, flatEntry, flatPacket}
+use Rattle.flat.specs.Answers.{flatPut, flatWaiting, flatNext, flatOpen, flatRepair, flatApply, flatCode, flatRead, flatEntry, flatPacket}
 use Rattle.flat.specs.Headers.{fieldsOf, headerOf}
 use Rattle.flat.specs.States.{senderOf, flatSender, receiverOf, flatReceiver}
 use Rattle.flat.specs.declared.FlatPut.{FlatPut}
@@ -28,6 +30,7 @@ use Rattle.flat.specs.declared.FlatOpen.{FlatOpen}
 use Rattle.flat.specs.declared.FlatApply.{FlatApply}
 use Rattle.flat.specs.declared.FlatCode.{FlatCode}
 use Rattle.flat.specs.declared.FlatRead.{FlatRead}
+use Rattle.flat.specs.declared.FlatRepair.{FlatRepair}
 use Rattle.flat.specs.declared.FlatEntry.{FlatEntry}
 use Rattle.flat.specs.declared.FlatPacket.{FlatPacket}
 use Rattle.flat.specs.declared.headers.FlatFields.{FlatFields}
@@ -49,6 +52,11 @@ pub record OpenCall (taps : ℕ) (frame before : List ℕ) (r : FlatOpen) (after
   pub answer : OpenAnswer
   pub outcome : OpenOutcome taps frame before answer after
   pub flat : r ≡ flatOpen answer
+
+pub record RepairCall (taps : ℕ) (part before : List ℕ) (r : FlatRepair) (after : List ℕ) : Type 0 where
+  pub answer : RepairAnswer
+  pub outcome : RepairOutcome taps part before answer after
+  pub flat : r ≡ flatRepair answer
 
 pub record ApplyCall (header : FlatHeader) (area : List ℕ) (receiver : FlatReceiver) (hold list : List ℕ)
     (r : FlatApply) (hold′ list′ : List ℕ) : Type 0 where

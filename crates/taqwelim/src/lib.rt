@@ -7,6 +7,7 @@ use flat::FlatOpen;
 use flat::FlatPacket;
 use flat::FlatPut;
 use flat::FlatRead;
+use flat::FlatRepair;
 use flat::FlatWaiting;
 use flat::headers;
 use flat::headers::FlatFields;
@@ -16,8 +17,8 @@ use flat::states::FlatReceiver;
 use flat::states::FlatSender;
 use receiver::Receiver;
 use sender::Sender;
-ghost use Rattle.taqwelim.specs.Calls.{FreshSenderCall, PutCall, WaitingCall, NextCall, FreshReceiverCall, OpenCall, ApplyCall, EntryCall, PacketCall};
-ghost use Rattle.taqwelim.specs.Calls.{CodeCall, ReadCall, LevelCall};
+ghost use Rattle.taqwelim.specs.Calls.{FreshSenderCall, PutCall, WaitingCall, NextCall, FreshReceiverCall, OpenCall, RepairCall, ApplyCall};
+ghost use Rattle.taqwelim.specs.Calls.{EntryCall, PacketCall, CodeCall, ReadCall, LevelCall};
 
 #[no_mangle]
 pub extern "C" fn taqwelim_fresh_sender() -> FlatSender
@@ -79,6 +80,15 @@ pub extern "C" fn taqwelim_open(taps: u32, frame: &[u8], area: &mut [u8]) -> Fla
 {
     let answer = opening::open(taps, frame, area);
     flat::flat_open(answer)
+}
+
+// Refusals: 1, 2, 8, 12. The repaired bytes are the part itself where the count is 0, and otherwise the first 2,072 of the scratch.
+#[no_mangle]
+pub extern "C" fn taqwelim_repair(taps: u32, part: &[u8], scratch: &mut [u8]) -> FlatRepair
+    ensures { λ r. ⌜ RepairCall taps (now (part .entry)) (now (scratch .entry)) r (now (scratch .exit)) ⌝ }
+{
+    let answer = repairing::repair(taps, part, scratch);
+    flat::flat_repair(answer)
 }
 
 // Refusals: 2, 3, 11, 14, 15.
