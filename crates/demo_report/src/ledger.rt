@@ -51,3 +51,21 @@ pub fn as_promised(broken: Ledger, out: Ledger, put: u16) -> u64 {
     }
     count
 }
+
+// Of the blocks that were put, how many are marked in both ledgers.
+pub fn in_both(one: Ledger, other: Ledger, put: u16) -> u64 {
+    let one_at = one.marked;
+    let other_at = other.marked;
+    let mut count: u64 = 0;
+    for number in 0..put {
+        let place = number as usize;
+        if place < BLOCKS {
+            if one_at[place] {
+                if other_at[place] {
+                    count = printing::more(count);
+                }
+            }
+        }
+    }
+    count
+}

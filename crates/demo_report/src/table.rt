@@ -82,10 +82,22 @@ pub fn lost() {
     printing::say(b"lost");
 }
 
+// Tells how many bytes were repaired, where some were, and answers the length of that.
+fn repairs(count: u8) -> usize {
+    if count == 0 {
+        return 0;
+    }
+    printing::say(b", ");
+    let digits = number(0, count as u64);
+    printing::say(b" repaired");
+    wrapping_add_usize(digits, 11)
+}
+
 // With a space behind it where packets come out.
-pub fn received(missed: u16, packets: usize) {
+pub fn received(repaired: u8, missed: u16, packets: usize) {
     printing::say(b"received");
-    number(20, missed as u64);
+    fill(repairs(repaired), 13);
+    number(7, missed as u64);
     if 0 < packets {
         printing::say(b" ");
     }

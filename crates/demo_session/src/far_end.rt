@@ -24,6 +24,8 @@ pub struct FarEnd {
     pub totals: Totals,
     // The blocks of which a part was lost or refused.
     pub broken: Ledger,
+    // The blocks of which a part was received in a frame that was repaired.
+    pub mended: Ledger,
 }
 
 impl FarEnd {
@@ -33,18 +35,38 @@ impl FarEnd {
             readers: Readers::new(),
             totals: Totals::none(),
             broken: Ledger::new(),
+            mended: Ledger::new(),
         }
     }
 
-    fn with_received(self, receiver: Receiver, readers: Readers, missed: u16) -> FarEnd {
-        let totals = self.totals.with_received(missed);
+    fn with_received(
+        self,
+        receiver: Receiver,
+        readers: Readers,
+        repaired: u8,
+        missed: u16,
+    ) -> FarEnd {
+        let totals = self.totals.with_received(repaired, missed);
         let broken = self.broken;
+        let mended = self.mended;
         FarEnd {
             receiver,
             readers,
             totals,
             broken,
+            mended,
         }
+    }
+
+    // With the blocks of a frame that is received marked as mended, where bytes of it were repaired.
+    fn with_mended(self, repaired: u8, first: u16, end: u16) -> FarEnd {
+        if repaired == 0 {
+            return self;
+        }
+        let mut next = self;
+        let mended = self.mended.with_all(first, end);
+        next.mended = mended;
+        next
     }
 
     // With a frame lost: what it carries, blocks from `first` up to the one before `end`, does not come out.
@@ -68,8 +90,15 @@ impl FarEnd {
         next
     }
 
-    // With the receiver's answer to a frame, whose packets stand in the list.
-    fn with_answer(self, answer: ApplyAnswer, first: u16, end: u16, list: &[u8]) -> FarEnd {
+    // With the receiver's answer to a frame, of which some bytes were repaired or none, and whose packets stand in the list.
+    fn with_answer(
+        self,
+        answer: ApplyAnswer,
+        repaired: u8,
+        first: u16,
+        end: u16,
+        list: &[u8],
+    ) -> FarEnd {
         match answer {
             ApplyAnswer::Applied {
                 missed,
@@ -77,10 +106,11 @@ impl FarEnd {
                 listed,
                 receiver,
             } => {
-                table::received(missed, packets);
+                table::received(repaired, missed, packets);
                 let before = self.readers;
                 let readers = readers::read_out(before, demo_report::front(list, listed), packets);
-                self.with_received(receiver, readers, missed)
+                let next = self.with_mended(repaired, first, end);
+                next.with_received(receiver, readers, repaired, missed)
             }
             ApplyAnswer::Refused(refusal) => self.with_refused(refusal, first, end),
         }
@@ -90,9 +120,15 @@ impl FarEnd {
         let frames = self.totals;
         let readers = self.readers;
         let broken = self.broken;
+        let mended = self.mended;
         let out = readers.out;
         totals::print_frames(frames);
-        totals::print_blocks(put, readers.recorder.blocks, readers.unaltered);
+        totals::print_blocks(
+            put,
+            readers.recorder.blocks,
+            readers.unaltered,
+            ledger::in_both(mended, out, put),
+        );
         totals::print_promised(ledger::as_promised(broken, out, put), put);
     }
 }
@@ -115,6 +151,7 @@ fn through_beam(count: u16, frame: &mut [u8]) -> usize
 fn apply(
     before: FarEnd,
     header: Header,
+    repaired: u8,
     first: u16,
     end: u16,
     area: &[u8],
@@ -123,7 +160,7 @@ fn apply(
 ) -> FarEnd {
     let receiver = before.receiver;
     let answer = receiver::apply(header, area, receiver, hold, list);
-    before.with_answer(answer, first, end, list)
+    before.with_answer(answer, repaired, first, end, list)
 }
 
 // What the far end makes of the bytes that arrive.
@@ -142,7 +179,9 @@ fn receive(
     }
     match opening::open(TAPS, arrived, area) {
         OpenAnswer::Refused(refusal) => before.with_refused(refusal, first, end),
-        OpenAnswer::Opened(header) => apply(before, header, first, end, area, hold, list),
+        OpenAnswer::Opened { header, repaired } => {
+            apply(before, header, repaired, first, end, area, hold, list)
+        }
     }
 }
 

@@ -1,4 +1,4 @@
-// A session over a shaken beam: blocks of samples are put as packets, frames are built, lost, damaged or received, and packets come out.
+// A session over a shaken beam: blocks of samples are put as packets, frames are built, lost, damaged, repaired or refused, and packets come out.
 mod far_end;
 mod near_end;
 mod readers;
@@ -15,7 +15,10 @@ const FRAMES: u16 = 64;
 fn print_head() {
     printing::say(b"Blocks of samples travel as packets through a shaken beam, 64 frames.\n");
     printing::say(
-        b"Where the beam is off by 33 or more, a frame is damaged; by 37 or more, it is lost.\n\n",
+        b"Where the beam is off by 29, five bytes of a frame are wrong, and one more with each step: up to\n",
+    );
+    printing::say(
+        b"eight of one word are repaired, in the preamble none. Where it is off by 37 or more, the frame is lost.\n\n",
     );
     printing::say(
         b"              put                                                                 recorder    tuner\n",
