@@ -5,7 +5,8 @@ random sessions."""
 from itertools import combinations, product
 
 from coder import codes, frames, packing, receiver
-from frame_vectors import BENCH_TAPS, OF_THE_FRAME, Sent, damaged, some_damage, whole
+from damage import OF_THE_FRAME, damaged, little_damage, some_damage
+from frame_vectors import BENCH_TAPS, Sent, whole
 from header_vectors import EDGES, KINDS, TYPES, headers_refused, one_bit_headers, some_header
 from receiver_session import HOLD, LIST, Arrivals
 from receiver_vectors import against_the_rules
@@ -140,9 +141,11 @@ def misfit_records():
 
 
 def openings(numbers, sent):
-    """Each refusal of opening, with the taps and the frame that meet it; 0 for none."""
+    """Each refusal of opening, with the taps and the frame that meet it; 0 for none, as it was sent and repaired."""
     frame, damage = sent.frame, some_damage(numbers)
-    yield from [(0, sent.taps, frame), (1, sent.taps - 1, frame), (2, sent.taps, frame[:-1])]
+    little, _ = little_damage(numbers)
+    yield from [(0, sent.taps, frame), (0, sent.taps, damaged(sent, little))]
+    yield from [(1, sent.taps - 1, frame), (2, sent.taps, frame[:-1])]
     for number in OF_THE_FRAME:
         yield number, sent.taps, damaged(sent, [damage[number]])
 

@@ -7,8 +7,10 @@ sys.path.insert(0, str(Path(__file__).resolve().parent / "second"))
 
 import codes  # noqa: E402
 import frames  # noqa: E402
+import nearest  # noqa: E402
 import packing  # noqa: E402
 import receiver  # noqa: E402
+import repairing  # noqa: E402
 import sender  # noqa: E402
 
-MODULES = [codes, frames, packing, sender, receiver]
+MODULES = [codes, nearest, frames, repairing, packing, sender, receiver]

@@ -1,19 +1,22 @@
-"""Compares the second coder's Reed-Solomon code with Debian's libfec, where that is installed (package libfec0).
+"""Compares the second coder's Reed-Solomon code and its repair with Debian's libfec, where that is installed (package
+libfec0).
 
     python3 tests/compare_libfec.py
 
 libfec is a third coder, with a history of its own: init_rs_char(8, 0x187, 120, 11, 16, pad) is symbols of 8 bits, the
 field polynomial of 000, 2.6.3.6.3, the first root's j, the step of the roots' exponents, 16 parity bytes, and as many
-zeros in front as `pad` says. Where it is not installed this says so, and is no failure.
+zeros in front as `pad` says. It repairs by an algorithm of its own (Berlekamp and Massey's, Forney's), and refuses to
+change one of those zeros. Where it is not installed this says so, and is no failure.
 """
 
 import ctypes
 import ctypes.util
 
-from coder import codes
+from coder import codes, frames, nearest
 from records import Numbers
 
 DATA = 239
+MOST_TRIED = nearest.MOST_WRONG + 2  # wrong bytes
 
 
 def library():
@@ -46,7 +49,7 @@ class Code:
         return parity.raw
 
     def repaired(self, word):
-        """How many bytes of the word libfec found wrong (-1: too many to repair), and the word after its repair."""
+        """How many bytes of the word libfec found wrong (below 0: no repair), and the word after its repair."""
         buffer = ctypes.create_string_buffer(bytes(word), len(word))
         wrong = self.fec.decode_rs_char(self.code, buffer, None, 0)
         return wrong, buffer.raw
@@ -78,15 +81,57 @@ def compare(fec, numbers, length, tally):
     code.free()
 
 
+def repaired_alike(code, near, word):
+    """Both repair the word to the same one, and count the same wrong bytes; or both say that there is no such word."""
+    found = near(word)
+    count, repaired = code.repaired(word)
+    if found is None:
+        return count < 0 and repaired == word
+    return (count, repaired) == (nearest.differences(found, word), found)
+
+
+def on_the_way(other, places):
+    """Of a codeword the bytes at these places, the others 0."""
+    return bytes(byte if place in places else 0 for place, byte in enumerate(other))
+
+
+def some_places(numbers, places, count):
+    places = list(places)
+    return [places.pop(numbers.below(len(places))) for _ in range(count)]
+
+
+def compare_repair(fec, numbers, length, near, results):
+    """Codewords with 0 to 10 wrong bytes; and all that lies between two codewords which differ in 17 places, of which
+    one or none is among the bytes that are not sent."""
+    code = Code(fec, length)
+    unsent = DATA - length
+    for count in [*range(MOST_TRIED + 1)] * 30:
+        data = numbers.bytes(length)
+        word = damaged(numbers, data + codes.parity(data), count)
+        results.append(repaired_alike(code, near, word))
+    for turn in range(10):
+        hidden = some_places(numbers, range(unsent), min(unsent, turn % 2))
+        sent = some_places(numbers, range(unsent, codes.WORD), 17 - len(hidden))
+        other = nearest.least_codeword([*hidden, *sent])
+        data = numbers.bytes(length)
+        word = data + codes.parity(data)
+        for count in range(len(sent) + 1):
+            error = on_the_way(other, sent[:count])[unsent:]
+            results.append(repaired_alike(code, near, nearest.added(word, error)))
+    code.free()
+
+
 def main():
     fec = library()
     if fec is None:
         print("libfec: skipped, it is not installed (Debian: libfec0)")
         return
     numbers = Numbers(314159)
-    tally = {"parities": [], "codewords": [], "damaged words": []}
+    tally = {"parities": [], "codewords": [], "damaged words": [], "repairs of words": [], "repairs of headers": []}
     for length in [*range(1, DATA + 1)] + [16] * 40 + [DATA] * 40:
         compare(fec, numbers, length, tally)
+    compare_repair(fec, numbers, DATA, nearest.near_word, tally["repairs of words"])
+    compare_repair(fec, numbers, frames.BARE_HEADER, nearest.near_header, tally["repairs of headers"])
     counts = ", ".join(f"{len(results)} {name}" for name, results in tally.items())
     different = sum(not result for results in tally.values() for result in results)
     print(f"libfec: {counts} compared, {different} different")

@@ -1,7 +1,8 @@
 """The vectors of whole frames.
 
     13  frame built    taps 4, fields, the frame, the area; from here on this frame is at hand
-    14  frame opened   taps 4, the room lent for the area 2, a byte 0, fields, the area: opening the frame at hand
+    14  frame opened   taps 4, the room lent for the area 2, a byte 0, fields, how many bytes were repaired 1, the area:
+                       opening the frame at hand
     15  frame refused  taps 4, the length 2, the room lent 2, the refusal's number, changes: to the frame at hand
     34  frame changed  the digest of the frame after the changes, the changes: from here on this frame is at hand
 
@@ -16,14 +17,13 @@ from typing import NamedTuple
 
 from code_vectors import in_blocks
 from coder import codes, frames
+from damage import OF_THE_FRAME, broken_rules, damage_of_each_number, damaged, some_damage
 from header_vectors import EDGES, KINDS, TYPES, fields, some_header
-from records import Numbers, changed, changes, digest, record, with_bit_changed
+from records import Numbers, changes, digest, record, with_bit_changed
 
 AREA = codes.AREA
 FRAME = frames.FRAME
 PREAMBLE = frames.PREAMBLE
-
-OF_THE_FRAME = [7, 8, 9, 11, 12, 13]  # the refusals of a frame's own bytes
 
 BENCH_TAPS = 0b1001
 ALL_TAPS = 2**25 - 1
@@ -55,11 +55,11 @@ def whole(sent, room):
     yield opened(sent, sent.frame, room)
 
 
-def opened(sent, frame, room):
-    """The frame at hand opened: the second coder has to find again what was put in."""
-    assert frames.open_frame(sent.taps, frame, room) == (0, sent.header, sent.area)
-    taps = sent.taps.to_bytes(4, "big")
-    return record(14, taps, room.to_bytes(2, "big"), b"\x00", fields(sent.header), sent.pattern)
+def opened(sent, frame, room, repaired=0):
+    """The frame at hand opened: the second coder has to find again what was put in, and how many bytes went wrong."""
+    assert frames.open_frame(sent.taps, frame, room) == (0, sent.header, sent.area, repaired)
+    lent = sent.taps.to_bytes(4, "big") + room.to_bytes(2, "big")
+    return record(14, lent, b"\x00", fields(sent.header), bytes([repaired]), sent.pattern)
 
 
 def changed_to(at_hand, frame):
@@ -69,7 +69,7 @@ def changed_to(at_hand, frame):
 
 def refused(number, at_hand, taps, frame, room=AREA):
     """The number is the one that is meant; the second coder has to find it too."""
-    found, _, _ = frames.open_frame(taps, frame, room)
+    found = frames.open_frame(taps, frame, room)[0]
     assert found == number, (found, number)
     sizes = len(frame).to_bytes(2, "big") + room.to_bytes(2, "big")
     return record(15, taps.to_bytes(4, "big"), sizes, bytes([number]), changes(at_hand, frame))
@@ -126,78 +126,7 @@ def whole_records():
 
 
 # ---------------------------------------------------------------------------------------------------------------------
-# Damage: functions on the parts of a frame, each with the stage on the frame's way at which it is done.
-
-
-def damaged(sent, damage):
-    def through(stage, part):
-        for at, function in damage:
-            part = function(part) if at == stage else part
-        return part
-
-    fourteen = through("fourteen", frames.header_bytes(sent.header)[:14])
-    sixteen = through("sixteen", frames.with_check(fourteen))
-    coded = through("coded", frames.coded_header(sixteen))
-    data = through("data", codes.payload_data_of(sent.area))
-    payload = through("payload", codes.code_payload(data))
-    return frames.frame_of(sent.taps, coded, payload, through("preamble", PREAMBLE))
-
-
-def flip(stage, place, change):
-    return stage, lambda part: changed(part, place, change)
-
-
-def set_fields(**values):
-    """Fields of Table 2-10 with other values; a hyphen is written as two underscores."""
-    amended = {name.replace("__", "-"): value for name, value in values.items()}
-    return "fourteen", lambda part: frames.bytes_by_table(frames.values_by_table(part) | amended)
-
-
-def broken_rules():
-    """Everything that 11 judges."""
-    damage = [set_fields(ACK__valid=0, RXFN=rxfn) for rxfn in [1, 0x100, 0xFFFF]]
-    for opcode in frames.WITH_LOCK:
-        damage += [set_fields(FCCH_OPCODE=opcode, FCCH_PL=payload) for payload in [2, 3, 0x1042, 0xFFFF]]
-    for opcode in range(7, 15):
-        damage += [set_fields(FCCH_OPCODE=opcode, FCCH_PL=payload) for payload in [1 << opcode, 0xFFFF]]
-    return damage + [set_fields(FCCH_OPCODE=15, FCCH_PL=payload) for payload in [0, 0xFFFE, 0x7FFF]]
-
-
-def some_damage(numbers):
-    """One for each number, so that each applies whatever the others do: check sums and parities are made anew behind
-    a change, and the header's codeword is broken in its parity."""
-
-    def some():
-        return 1 + numbers.below(255)
-
-    return {
-        7: flip("preamble", numbers.below(9), some()),
-        8: flip("coded", 16 + numbers.below(16), some()),
-        9: flip("sixteen", 14 + numbers.below(2), some()),
-        11: set_fields(ACK__valid=0, RXFN=some()),
-        12: flip("payload", numbers.below(codes.PAYLOAD), some()),
-        13: flip("data", AREA + numbers.below(4), some()),
-    }
-
-
-def damage_of_each_number(numbers, rules):
-    """Pairs of the number that is meant and the damage."""
-    for place in range(9):
-        yield 7, flip("preamble", place, 1 << numbers.below(8))
-    for _ in range(8):
-        yield 8, flip("coded", numbers.below(frames.CODED_HEADER), 1 + numbers.below(255))
-    yield 9, ("sixteen", lambda part: part[:14] + part[:13:-1])
-    for place in [14, 15]:
-        yield 9, flip("sixteen", place, 1 << numbers.below(8))
-    for damage in rules:
-        yield 11, damage
-    for word in range(codes.WORDS):
-        yield 12, flip("payload", word + codes.WORDS * numbers.below(255), 1 + numbers.below(255))
-    for place in [0, AREA, codes.PAYLOAD_DATA, codes.PAYLOAD - 1]:
-        yield 12, flip("payload", place, 1 << numbers.below(8))
-    yield 13, ("data", lambda part: part[:AREA] + part[: AREA - 1 : -1])
-    for place in [0, numbers.below(AREA), AREA - 1, AREA, AREA + 3]:
-        yield 13, flip("data", place, 1 << numbers.below(8))
+# Frames that are refused.
 
 
 def arguments_refused(sent, frame):
@@ -249,7 +178,7 @@ def order_records():
 
 
 # ---------------------------------------------------------------------------------------------------------------------
-# Every bit of the preamble, every byte of the coded header, and the slips that are to be expected.
+# Every bit of the preamble, and the slips that are to be expected.
 
 
 def restarted(sent, frame):
@@ -266,8 +195,6 @@ def slip_records():
     for place in range(8 * len(PREAMBLE)):
         damage = "preamble", lambda part, place=place: with_bit_changed(part, place)
         yield refused(7, frame, sent.taps, damaged(sent, [damage]))
-    for place in range(frames.CODED_HEADER):
-        yield refused(8, frame, sent.taps, damaged(sent, [flip("coded", place, 1 + numbers.below(255))]))
     zeros_behind = "coded", lambda part: part[:16] + codes.parity(part[:16] + bytes(223))
     yield refused(8, frame, sent.taps, damaged(sent, [zeros_behind]))
     yield refused(12, frame, sent.taps, restarted(sent, frame))
@@ -291,7 +218,7 @@ def with_reserved(taps, frame, reserved):
 
 def reserved_records():
     """02, M-100: all 128 choices of the seven reserved bits, opened to the same header and area; one cleared under the
-    check sum or the parity of the ones is refused."""
+    check sum of the ones is refused, and under their parity it is a wrong byte, which is repaired (M-101)."""
     numbers = Numbers(38)
     sent = Sent(numbers.taps(), some_header(numbers, frames.DATA, 3), numbers.bytes(31))
     yield from whole(sent, AREA)
@@ -307,7 +234,10 @@ def reserved_records():
             return frames.with_reserved(part[:14], frames.ALL_ONES - 2**bit) + part[14:]
 
         yield refused(9, at_hand, sent.taps, damaged(sent, [("sixteen", cleared)]))
-        yield refused(8, at_hand, sent.taps, damaged(sent, [("coded", cleared)]))
+        frame = damaged(sent, [("coded", cleared)])
+        yield changed_to(at_hand, frame)
+        yield opened(sent, frame, AREA, 1)
+        at_hand = frame
 
 
 GROUPS = [whole_records, damaged_records, order_records, slip_records, reserved_records]

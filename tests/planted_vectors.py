@@ -8,10 +8,12 @@ from functools import partial
 from code_vectors import PLAIN_FORM, codeword, crc_16, crc_32, parity, payload_coded, payload_judged, power, scrambled
 from code_vectors import taps_judged
 from coder import codes, frames, receiver
-from frame_vectors import BENCH_TAPS, Sent, changed_to, refused, whole
+from damage import add, damaged, hopeless_error, some_error
+from frame_vectors import BENCH_TAPS, Sent, changed_to, opened, refused, whole
 from header_vectors import coded, level, read, some_header
 from receiver_session import Arrivals
 from records import PLANTED, Numbers, changed, planted
+from repair_vectors import PART, part_shown, repaired
 from sender_session import Session
 from sender_vectors import area_of
 
@@ -41,7 +43,7 @@ def some_of(start, end):
 
 
 # ---------------------------------------------------------------------------------------------------------------------
-# The groups: codes and headers, whole frames, the sender, the receiver, and what waits.
+# The groups: codes and headers, whole frames and their repair, the sender, the receiver, and what waits.
 
 
 def code_records():
@@ -90,14 +92,32 @@ def frame_records():
     change nothing, so that the frame at hand stays; each is wrong in its digest."""
     numbers = Numbers(30)
     sent = Sent(BENCH_TAPS, some_header(numbers, frames.DATA, 1), numbers.bytes(30))
-    built, opened = whole(sent, AREA)
+    built, opened_again = whole(sent, AREA)
     frame = sent.frame
     yield from wrong_bytes(numbers, lambda: built, some_of(28, 28 + frames.FRAME))
     yield built
-    yield from wrong_bytes(numbers, lambda: opened, range(6, 31 + 30))
+    yield from wrong_bytes(numbers, lambda: opened_again, range(6, 32 + 30))
     yield from wrong_bytes(numbers, lambda: refused(7, frame, BENCH_TAPS, changed(frame, 0, 1)), [8])
     yield planted(refused(0, frame, BENCH_TAPS, frame))
     yield from wrong_bytes(numbers, lambda: changed_to(frame, frame), range(8))
+
+
+def repair_records():
+    """Of a frame with wrong bytes the count when it is opened; of its part, of one with none and of one with too many
+    the answer and the digests; and what is shown after each answer."""
+    numbers = Numbers(50)
+    sent = Sent(BENCH_TAPS, some_header(numbers, frames.DATA, 6), numbers.bytes(30))
+    little = damaged(sent, [add(word, some_error(numbers, word, 8)) for word in [1, 8]])
+    no_word = damaged(sent, [add(1, hopeless_error(numbers, 1))])
+    yield from whole(sent, AREA)
+    for frame, answer in [(sent.frame, (0, 0)), (little, (0, 16)), (no_word, (12, 0))]:
+        made = partial(repaired, answer, sent.frame, BENCH_TAPS, frame, PART, 2100)
+        yield from wrong_bytes(numbers, made, range(8, 26))
+        shown = partial(part_shown, sent.frame, *answer, PART, 2100)
+        yield from wrong_bytes(numbers, shown, range(6, 14))
+        yield from wrong_length(shown)
+    yield changed_to(sent.frame, little)
+    yield from wrong_bytes(numbers, partial(opened, sent, little, AREA, 16), [*range(6, 32), *some_of(32, 62)])
 
 
 def sender_records():
@@ -157,4 +177,6 @@ def receiver_records():
     yield from wrong_bytes(numbers, unopened, range(21, 91))
 
 
-GROUPS = [code_records, header_records, frame_records, sender_records, receiver_records, waiting_records]
+GROUPS = [
+    code_records, header_records, frame_records, repair_records, sender_records, receiver_records, waiting_records,
+]

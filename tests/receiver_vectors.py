@@ -2,7 +2,8 @@
 that are read, and random histories in which frames of the second coder's sender are lost, damaged, or arrive."""
 
 from coder import codes, frames, packing, receiver
-from frame_vectors import BENCH_TAPS, OF_THE_FRAME, Sent, damaged, some_damage, with_reserved
+from damage import OF_THE_FRAME, damaged, little_damage, some_damage
+from frame_vectors import BENCH_TAPS, Sent, with_reserved
 from header_vectors import fields, some_header
 from receiver_session import HOLD, LIST, Arrivals
 from records import Numbers, changed, record
@@ -198,11 +199,15 @@ class Passage:
         return (9000 if last else 8999) - len(data)
 
     def arrives_whole(self):
-        """In one of eight the reserved bits are another maker's (02, M-100). Where part of a packet came as another
-        type, the next part may be joined to what was held, and pass 9,000."""
-        frame = self.at_hand
-        if self.numbers.below(8) == 0:
+        """In one of eight the reserved bits are another maker's (02, M-100), and in one of eight some bytes are wrong,
+        not too many (02, M-101). Where part of a packet came as another type, the next part may be joined to what was
+        held, and pass 9,000."""
+        frame, odd = self.at_hand, self.numbers.below(8)
+        if odd == 0:
             frame = with_reserved(self.taps, frame, self.numbers.below(frames.ALL_ONES + 1))
+        elif odd == 1:
+            damage, _ = little_damage(self.numbers)
+            frame = damaged(Sent(self.taps, self.header, self.area), damage)
         most, own = self.most_held(), self.arrivals.receiver
         is_15 = most is not None and own.expected in (None, self.header.txfn) and own.held > most
         return self.arrives(frame, 15 if is_15 else 0)

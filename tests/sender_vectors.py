@@ -2,9 +2,9 @@
 are whole and that are not, and random histories of puts and frames."""
 
 from coder import codes, frames, packing, sender
-from frame_vectors import ALL_TAPS, BENCH_TAPS
-from header_vectors import fields, headers_refused, some_header
-from records import Numbers, record
+from frame_vectors import ALL_TAPS, BENCH_TAPS, Sent, opened
+from header_vectors import headers_refused, some_header
+from records import Numbers
 from sender_session import Session, seeded
 
 QUEUE = packing.QUEUE
@@ -30,8 +30,7 @@ def carried(numbers, session, area):
     """A DATA frame in full, and its area."""
     header = some_header(numbers, frames.DATA, numbers.below(9))._replace(txfn=session.sender.next)
     yield session.next_frame(BENCH_TAPS, header, full=True)
-    assert frames.open_frame(BENCH_TAPS, session.frame, codes.AREA) == (0, header, area)
-    yield record(14, BENCH_TAPS.to_bytes(4, "big"), codes.AREA.to_bytes(2, "big"), b"\x00", fields(header), area)
+    yield opened(Sent(BENCH_TAPS, header, area), session.frame, codes.AREA)
 
 
 def sending(numbers, lengths, expected):

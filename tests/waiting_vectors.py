@@ -100,7 +100,7 @@ def history_records():
             packets, length = packets + taken, length + added * taken
         else:
             yield session.next_frame(BENCH_TAPS, some_header(numbers, frames.DATA, numbers.below(9)))
-            _, header, area = frames.open_frame(BENCH_TAPS, session.frame, codes.AREA)
+            _, header, area, _ = frames.open_frame(BENCH_TAPS, session.frame, codes.AREA)
             records = packing.records_of(area) if header.type == frames.DATA else []
             packets -= sum(last for _, last, _ in records)
             length -= sum(len(record) for _, _, record in records)

@@ -10,8 +10,9 @@ The capture begins with the scope paper's example: a fresh sender's IDLE, then i
 import sys
 from pathlib import Path
 
-from coder import codes, frames, packing, sender
-from frame_vectors import AREA, BENCH_TAPS, FRAME, OF_THE_FRAME, Sent, damaged, some_damage, with_reserved
+from coder import codes, frames, packing, repairing, sender
+from damage import NINE_WORDS, OF_THE_FRAME, damaged, some_damage, some_error
+from frame_vectors import AREA, BENCH_TAPS, FRAME, Sent, with_reserved
 from header_vectors import some_header
 from records import Numbers
 
@@ -59,10 +60,18 @@ class Bench:
 
     def arrive_damaged(self, number):
         """The next frame, with the damage that is refused with this number."""
-        _, header, area = frames.open_frame(BENCH_TAPS, self.next(), AREA)
+        _, header, area, _ = frames.open_frame(BENCH_TAPS, self.next(), AREA)
         found = damaged(Sent(BENCH_TAPS, header, area), [some_damage(self.numbers)[number]])
         assert frames.open_frame(BENCH_TAPS, found, AREA)[0] == number
         self.arrived.append(found)
+
+    def arrive_repairable(self, counts):
+        """The next frame, with so many wrong bytes in each of these words."""
+        frame = self.next()
+        for word, count in counts.items():
+            frame = repairing.added_to_word(frame, word, some_error(self.numbers, word, count))
+        assert frames.open_frame(BENCH_TAPS, frame, AREA)[3] == sum(counts.values())
+        self.arrived.append(frame)
 
     def arrive_with(self, area, frame_type=frames.DATA):
         """A frame that no sender of ours builds, with the sender's next number."""
@@ -99,6 +108,20 @@ def damage(bench):
         bench.arrive()
         bench.arrive_damaged(number)
         bench.arrive_all()
+
+
+def repaired_bytes(bench):
+    """Frames with bytes that are repaired, of a packet that comes out whole, of two behind it, and of none (02, M-101):
+    one byte of a word, one of the header, 8 of a word, 8 of the header, 8 of each of the nine."""
+    before = len(bench.arrived)
+    bench.put(9000, 5, 1900)
+    for counts in [{3: 1}, {8: 1}, {6: 8}, {8: 8}, dict.fromkeys(NINE_WORDS, 8), {0: 2, 7: 3, 8: 4}]:
+        bench.arrive_repairable(counts)
+    bench.arrive_repairable({5: 8, 8: 2})
+    lines = listing.listing(b"".join(bench.arrived[before:])).splitlines()[1:]
+    assert [line.split()[2:] for line in lines] == [["data", "0", str(packets)] for packets in [0, 0, 0, 0, 2, 1]] + [
+        ["idle", "0", "0"]
+    ], lines
 
 
 def against_the_rules(bench):
@@ -169,7 +192,7 @@ def cut_short(bench):
 
 
 PARTS = [
-    example, whole_packets, damage, against_the_rules, too_long, gaps, other_types, past_the_last_number,
+    example, whole_packets, damage, repaired_bytes, against_the_rules, too_long, gaps, other_types, past_the_last_number,
     other_reserved_bits, cut_short,
 ]
 

@@ -5,8 +5,8 @@
 
 The file is the number of records in four bytes, and then the records, in the form of records.py. Which kinds there are,
 and what their bodies hold, stands at the head of the files that make them: code_vectors.py, header_vectors.py,
-frame_vectors.py, sender_session.py and receiver_session.py. Each group has a seed of its own, so that a group can be
-added and the others stay as they are. Behind all others stand the planted records, which are wrong.
+frame_vectors.py, repair_vectors.py, sender_session.py and receiver_session.py. Each group has a seed of its own, so
+that a group can be added and the others stay as they are. Behind all others stand the planted records, which are wrong.
 """
 
 import sys
@@ -19,6 +19,7 @@ import frame_vectors
 import header_vectors
 import planted_vectors
 import receiver_vectors
+import repair_vectors
 import ring_vectors
 import sender_vectors
 import waiting_vectors
@@ -27,9 +28,10 @@ VECTORS = Path(__file__).resolve().parent.parent / "crates" / "trials" / "stdin"
 
 
 def vectors():
+    whole_frames = [frame_vectors, repair_vectors]
     sending = [sender_vectors, ring_vectors]
     receiving = [receiver_vectors, apply_vectors]
-    files = [code_vectors, header_vectors, frame_vectors, *sending, *receiving, waiting_vectors, planted_vectors]
+    files = [code_vectors, header_vectors, *whole_frames, *sending, *receiving, waiting_vectors, planted_vectors]
     records = [one for file in files for group in file.GROUPS for one in group()]
     return records, len(records).to_bytes(4, "big") + b"".join(records)
 

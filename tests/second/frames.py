@@ -8,6 +8,7 @@ import random
 
 import codes
 import headers
+import nearest
 # These belong to the interface of this module, though they are defined beside the header's bits.
 from headers import (  # noqa: F401
     ABSENT, ALL_ONES, BARE_HEADER, DATA, IDLE, RESERVED, WIDTHS, WITH_LOCK, Header, Message, bytes_by_table, code_header,
@@ -18,6 +19,7 @@ from headers import (  # noqa: F401
 PREAMBLE = bytes.fromhex("77AD5B5843641E2E26")  # 000, Table 2-8
 CODED_HEADER = 32
 FRAME = 2081
+PART = 2072  # the bytes behind the preamble
 HEADER_FILL = 223  # zero bytes coded in front of the header and not sent (000, Table 2-16)
 
 
@@ -43,43 +45,63 @@ def parts_of(taps, frame):
     return plain[:CODED_HEADER], plain[CODED_HEADER:]
 
 
-def content_refusals(taps, frame):
-    """Those from 7 to 13 that apply to a frame of the right length; 12 and 13 for every type (R11)."""
-    coded, payload = parts_of(taps, frame)
-    refusals = header_refusals(coded[:BARE_HEADER])
-    if bytes(frame[:len(PREAMBLE)]) != PREAMBLE:
+def repaired_parts(taps, part):
+    """Coded header and coded payload with the key taken off and their wrong bytes repaired; None in place of either
+    where no codeword is that near (02, M-101)."""
+    plain = codes.scramble(taps, part)
+    return nearest.near_header(plain[:CODED_HEADER]), nearest.near_payload(plain[CODED_HEADER:])
+
+
+def content_refusals(preamble, coded, payload):
+    """Those from 7 to 13 that apply to a frame's preamble and its repaired parts; 12 and 13 for every type (R11). Check
+    sums and rules are those of the repaired bytes: where there are none, 8 or 12 alone can be judged."""
+    refusals = [8] if coded is None else header_refusals(coded[:BARE_HEADER])
+    if bytes(preamble) != PREAMBLE:
         refusals.append(7)
-    if not codes.is_codeword(coded):
-        refusals.append(8)
-    if not codes.are_codewords(payload):
+    if payload is None:
         refusals.append(12)
-    if codes.payload_data_of(payload[:codes.AREA]) != payload[:codes.PAYLOAD_DATA]:
+    elif codes.payload_data_of(payload[:codes.AREA]) != payload[:codes.PAYLOAD_DATA]:
         refusals.append(13)
     return refusals
 
 
 def open_frame(taps, frame, room):
-    """A frame opened: the number, and header and area where it is 0."""
+    """A frame opened: the number, and where it is 0 the header, the area and how many bytes were repaired."""
     refusals = []
+    coded = payload = None
     if not codes.are_taps(taps):
         refusals.append(1)
     if len(frame) != FRAME or room < codes.AREA:
         refusals.append(2)
     # Only with taps and a whole frame is there anything to descramble; 1 and 2 are the lowest in any case.
     if not refusals:
-        refusals = content_refusals(taps, frame)
+        coded, payload = repaired_parts(taps, frame[len(PREAMBLE):])
+        refusals = content_refusals(frame[:len(PREAMBLE)], coded, payload)
     if refusals:
-        return min(refusals), None, None
-    coded, payload = parts_of(taps, frame)
-    return 0, header_of(coded[:BARE_HEADER]), payload[:codes.AREA]
+        return min(refusals), None, None, None
+    repaired = nearest.differences(frame, frame_of(taps, coded, payload))
+    return 0, header_of(coded[:BARE_HEADER]), payload[:codes.AREA], repaired
 
 
 # Trials
 
 
-def damaged(frame, place):
-    """The frame with one byte changed."""
-    return frame[:place] + bytes([frame[place] ^ 0x10]) + frame[place + 1:]
+def damaged(frame, *places):
+    """The frame with the bytes at these places changed."""
+    spoiled = bytearray(frame)
+    for place in places:
+        spoiled[place] ^= 0x10
+    return bytes(spoiled)
+
+
+def damaged_header(frame, count):
+    """So many wrong bytes in the coded header, from its end."""
+    return damaged(frame, *range(40, 40 - count, -1))
+
+
+def damaged_word(frame, word, count):
+    """So many wrong bytes in a word of the payload, every eighth byte, from its end."""
+    return damaged(frame, *range(2073 + word, 2073 + word - 8 * count, -8))
 
 
 def recoded(taps, sixteen, payload_data):
@@ -98,11 +120,12 @@ def refusal_cases(taps, header, area):
         ("taps 0", open_frame(0, b"", 0)[0], 1),
         ("a byte less", open_frame(taps, frame[:-1], codes.AREA)[0], 2),
         ("no room", open_frame(taps, frame, codes.AREA - 1)[0], 2),
-        ("preamble", open_frame(taps, damaged(damaged(frame, 0), 9), codes.AREA)[0], 7),
-        ("header word", open_frame(taps, damaged(frame, 40), codes.AREA)[0], 8),
+        ("preamble", open_frame(taps, damaged_header(damaged(frame, 0), 9), codes.AREA)[0], 7),
+        ("preamble alone", open_frame(taps, damaged(frame, 8), codes.AREA)[0], 7),
+        ("header word", open_frame(taps, damaged_header(frame, 9), codes.AREA)[0], 8),
         ("CRC-16", open_frame(taps, recoded(taps, good[:14] + bytes(2), payload_data), codes.AREA)[0], 9),
         ("lock 2", open_frame(taps, recoded(taps, no_lock, payload_data), codes.AREA)[0], 11),
-        ("payload word", open_frame(taps, damaged(frame, 2080), codes.AREA)[0], 12),
+        ("payload word", open_frame(taps, damaged_word(frame, 7, 9), codes.AREA)[0], 12),
         ("CRC-32 low byte first", open_frame(taps, recoded(taps, good, check_turned), codes.AREA)[0], 13),
         ("other taps", open_frame(0b11, frame, codes.AREA)[0], 8),
     ]
@@ -157,7 +180,7 @@ def reserved_cases(taps, header, area):
         cases.append((f"reserved bits {reserved}, CRC-16 of the ones", read_header(other + check), (9, None)))
     for reserved in [0, *(ALL_ONES - 2 ** bit for bit in range(7))]:
         frame = recoded(taps, with_check(with_reserved(fourteen, reserved)), payload_data)
-        cases.append((f"reserved bits {reserved}, opened", open_frame(taps, frame, codes.AREA), (0, header, area)))
+        cases.append((f"reserved bits {reserved}, opened", open_frame(taps, frame, codes.AREA), (0, header, area, 0)))
     return cases
 
 
@@ -172,7 +195,7 @@ def own_trial():
     return tried + codes.all_same(refusal_cases(taps, header, area) + [
         ("ones of the preamble", sum(byte.bit_count() for byte in PREAMBLE), 36),
         ("length of a frame", len(frame), FRAME),
-        ("opened", open_frame(taps, frame, 5000), (0, header, area)),
+        ("opened", open_frame(taps, frame, 5000), (0, header, area, 0)),
         ("the preamble is not scrambled", frame[:9], PREAMBLE),
         ("header and payload under one key", codes.scramble(taps, frame[9:])[32:1940], area),
         ("the header word with its zeros", codes.is_codeword(bytes(223) + parts_of(taps, frame)[0]), True),

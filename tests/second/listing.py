@@ -51,6 +51,7 @@ def own_trial():
     head = HEAD + "\n"
     two = sent_frames(2, {1: [b"\xAA"]})
     long = sent_frames(4, {1: [bytes(4000), b"x"]})
+    eight_wrong, nine_wrong = frames.damaged_word(long[2], 5, 8), frames.damaged_word(long[3], 5, 9)
     other = frames.build(0b1001, sender.FIELDS._replace(txfn=9, type=3), bytes(codes.AREA))
     return codes.all_same([
         ("01's two frames", listing(b"".join(two)), head + "0 0 idle 0 0\n1 1 data 0 1\n"),
@@ -58,6 +59,8 @@ def own_trial():
         ("a short piece", listing(two[0] + b"\x77"), head + "0 0 idle 0 0\n1 refused 2\n"),
         ("a long packet and a short one", listing(b"".join(long)),
          head + "0 0 idle 0 0\n1 1 data 0 0\n2 2 data 0 0\n3 3 data 0 2\n"),
+        ("8 wrong bytes of a word, then 9", listing(long[0] + long[1] + eight_wrong + nine_wrong),
+         head + "0 0 idle 0 0\n1 1 data 0 0\n2 2 data 0 0\n3 refused 12\n"),
         ("a gap in a long packet", listing(long[0] + long[1] + bytes(2081) + long[3]),
          head + "0 0 idle 0 0\n1 1 data 0 0\n2 refused 7\n3 3 data 1 1\n"),
         ("type 3", listing(two[0] + other), head + "0 0 idle 0 0\n1 9 type3 8 0\n"),

@@ -116,7 +116,7 @@ def apply(header, area, receiver, hold, output):
 def open_and_apply(taps, frame, receiver, hold, output):
     """The two calls as one (02, M-106): what was opened is applied, once and as opened. The first refusal stands, and
     nothing is applied after one."""
-    number, header, area = frames.open_frame(taps, frame, codes.AREA)
+    number, header, area, _ = frames.open_frame(taps, frame, codes.AREA)
     if number != 0:
         return number, None, receiver, bytes(hold), bytes(output)
     return apply(header, area, receiver, hold, output)
@@ -244,7 +244,7 @@ def opened_cases(taps):
     for opcode, bits, (valid, rxfn) in product(range(16), [0, 2, 0xFFFF], [(0, 0), (0, 1), (1, 1)]):
         changes = {"FCCH_OPCODE": opcode, "FCCH_PL": bits, "ACK-valid": valid, "RXFN": rxfn, "FRAME_TYPE": opcode % 4}
         coded = frames.coded_header(frames.with_check(frames.bytes_by_table(plain | changes)))
-        opened, header, area = frames.open_frame(taps, frames.frame_of(taps, coded, payload), codes.AREA)
+        opened, header, area, _ = frames.open_frame(taps, frames.frame_of(taps, coded, payload), codes.AREA)
         seen.add((opened, apply(header, area, FRESH, **LENT)[0] if opened == 0 else None))
     return [("opened and applied, or refused when opened", seen, {(0, 0), (11, None)})]
 
@@ -261,10 +261,10 @@ def wire_cases(taps):
     sixteen, zeros = frames.header_bytes(HEADER), codes.payload_data_of(bytes(1908))
     arrived = {
         7: bytes(2081),
-        8: frames.damaged(frame, 40),
+        8: frames.damaged_header(frame, 9),
         9: frames.recoded(taps, sixteen[:15] + b"x", zeros),
         11: frames.recoded(taps, frames.with_check(sixteen[:2] + b"x" + sixteen[3:14]), zeros),
-        12: frames.damaged(frame, 2080),
+        12: frames.damaged_word(frame, 7, 9),
         13: frames.recoded(taps, sixteen, zeros[:-1] + b"x"),
     }
     undamaged = frames.recoded(taps, sixteen, zeros)

@@ -164,7 +164,7 @@ def sent(lengths, start=0):
         before = sender
         number, sender, queue, output = next_frame(TAPS, FIELDS, sender, queue, OUTPUT)
         codes.all_same([("sent", number, 0), ("bytes past the frame", output[frames.FRAME:], OUTPUT[frames.FRAME:])])
-        number, header, area = frames.open_frame(TAPS, output[:frames.FRAME], codes.AREA)
+        number, header, area, _ = frames.open_frame(TAPS, output[:frames.FRAME], codes.AREA)
         codes.all_same([("opened", (number, header.txfn), (0, before.next))])
         if header.type == frames.IDLE:
             return areas, sender

@@ -1,8 +1,9 @@
 """Runs the trial of every module, then random sessions with losses and damage from a sender to a receiver.
 
-Demand 3 in our words, opening and applying taken as one (request M-106): each frame that arrives as sent is accepted; a
-packet comes out exactly if every frame from the one with its first byte to the one with its last was accepted; packets
-come out in order, once, unaltered.
+Demand 3 in our words, opening and applying taken as one (request M-106): each frame that arrives with at most 8 wrong
+bytes in the header and in each payload word, the preamble intact, is accepted (M-101); a packet comes out exactly if
+every frame from the one with its first byte to the one with its last was accepted; packets come out in order, once,
+unaltered.
 """
 
 import random
@@ -11,8 +12,10 @@ import time
 import codes
 import frames
 import listing
+import nearest
 import packing
 import receiver
+import repairing
 import sender
 
 SESSION = 300
@@ -45,14 +48,24 @@ def random_packet(chance):
     return chance.randbytes(chance.choice(chance.choice(lengths)))
 
 
-def random_damage(chance, frame):
-    """The frame with up to six bytes changed, which no codeword survives, or cut short."""
-    if chance.randrange(5) == 0:
+def little_damage(chance, frame):
+    """The frame with up to 8 wrong bytes in some of its nine words, or in all."""
+    for word in chance.sample(range(9), chance.choice([1, 1, 2, 9])):
+        error = nearest.some_error(chance, repairing.length_of(word), chance.randrange(nearest.MOST_WRONG + 1))
+        frame = repairing.added_to_word(frame, word, error)
+    return frame
+
+
+def much_damage(chance, frame):
+    """The frame with a wrong preamble, cut short, or with 9 wrong bytes or more in one of its nine words."""
+    fate = chance.randrange(5)
+    if fate == 0:
         return frame[:chance.randrange(len(frame))]
-    spoiled = bytearray(frame)
-    for place in chance.sample(range(len(frame)), chance.randrange(1, 7)):
-        spoiled[place] ^= chance.randrange(1, 256)
-    return bytes(spoiled)
+    if fate == 1:
+        return frames.damaged(frame, chance.randrange(len(frames.PREAMBLE)))
+    word = chance.randrange(9)
+    error = nearest.some_error(chance, repairing.length_of(word), chance.choice([9, 9, 10, 20]))
+    return repairing.added_to_word(frame, word, error)
 
 
 class SendingEnd:
@@ -114,10 +127,11 @@ class ReceivingEnd:
         self.came_out = []
 
     def take(self, place, frame):
-        """A frame as it was sent: it must be accepted, and the frames since the last accepted one are missed."""
+        """A frame as it was sent, or damaged little: it must be accepted, and the frames since the last accepted one
+        are missed."""
         number, answer, self.state, self.hold, self.output = receiver.open_and_apply(
             self.taps, frame, self.state, self.hold, self.output)
-        codes.all_same([("a frame that arrives as sent", number, 0)])
+        codes.all_same([("a frame that arrives, damaged little or not", number, 0)])
         missed = place - self.accepted[-1] - 1 if self.accepted else 0
         listed = receiver.packets_of(self.output[:answer.listed])
         codes.all_same([("missed", answer.missed, missed), ("packets", len(listed), answer.packets)])
@@ -141,17 +155,19 @@ def session(seed, taps):
             sending.give()
         frame = sending.send(place)
         fate = chance.randrange(100)
-        if fate < 86:
+        if fate < 66:
             receiving.take(place, frame)
+        elif fate < 86:
+            receiving.take(place, little_damage(chance, frame))
         elif fate < 93:
-            receiving.refuse(random_damage(chance, frame))
+            receiving.refuse(much_damage(chance, frame))
     codes.all_same([("packets that came out", receiving.came_out, sending.due(set(receiving.accepted)))])
     return len(sending.given), len(receiving.came_out), len(receiving.accepted)
 
 
 def main():
     """All trials, with a count and a time for each."""
-    for module in [codes, frames, packing, sender, receiver, listing]:
+    for module in [codes, nearest, frames, repairing, packing, sender, receiver, listing]:
         begun = time.perf_counter()
         count = module.own_trial()
         print(f"{module.__name__}: {count} tried, {time.perf_counter() - begun:.2f} s")
