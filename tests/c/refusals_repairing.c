@@ -24,27 +24,27 @@ static void repair_gives(uint8_t wanted, uint32_t with, size_t part_length, size
     expect(answer.repaired == 0, "repair's count after a refusal, and where nothing is wrong");
 }
 
+/* Lengths of part and scratch with which nothing is repaired. */
+static const size_t lengths[][2] = {
+    {0, 0}, {0, 2072}, {2071, 2072}, {2073, 2073}, {2081, 2081}, {2072, 2071}, {2072, 0},
+};
+
 /* Taps and lengths, beside everything that can be wrong with a part. */
 static void arguments(void)
 {
+    static const uint32_t none[] = {0, 8, UINT32_C(1) << 25 | 1, UINT32_MAX};
     set_part(~0u);
-    repair_gives(TAQWELIM_REFUSED_TAPS, 0, 0, 0);
-    repair_gives(TAQWELIM_REFUSED_TAPS, 8, 2072, 2072);
-    repair_gives(TAQWELIM_REFUSED_TAPS, UINT32_C(1) << 25 | 1, 2072, 2072);
-    repair_gives(TAQWELIM_REFUSED_TAPS, UINT32_MAX, 2071, 2071);
-    for (int i = 0; i < 2; i++) {
-        repair_gives(TAQWELIM_REFUSED_LENGTH, taps, 0, 0);
-        repair_gives(TAQWELIM_REFUSED_LENGTH, taps, 0, 2072);
-        repair_gives(TAQWELIM_REFUSED_LENGTH, taps, 2071, 2072);
-        repair_gives(TAQWELIM_REFUSED_LENGTH, taps, 2073, 2073);
-        repair_gives(TAQWELIM_REFUSED_LENGTH, taps, 2081, 2081);
-        repair_gives(TAQWELIM_REFUSED_LENGTH, taps, 2072, 2071);
-        repair_gives(TAQWELIM_REFUSED_LENGTH, taps, 2072, 0);
+    for (size_t i = 0; i < sizeof none / sizeof *none; i++)
+        repair_gives(TAQWELIM_REFUSED_TAPS, none[i], lengths[i][0], lengths[i][1]);
+    for (int is_right = 0; is_right < 2; is_right++) {
+        for (size_t i = 0; i < sizeof lengths / sizeof *lengths; i++)
+            repair_gives(TAQWELIM_REFUSED_LENGTH, taps, lengths[i][0], lengths[i][1]);
+        repair_gives(TAQWELIM_REFUSED_TAPS, 8, 2072, 2072);
         set_part(0); /* and where nothing else is wrong */
     }
-    repair_gives(TAQWELIM_NOT_REFUSED, taps, 2072, 2072);
-    repair_gives(TAQWELIM_NOT_REFUSED, taps, 2072, 2073);
-    repair_gives(TAQWELIM_NOT_REFUSED, taps, 2072, ROOM);
+    static const size_t rooms[] = {2072, 2073, ROOM};
+    for (size_t i = 0; i < sizeof rooms / sizeof *rooms; i++)
+        repair_gives(TAQWELIM_NOT_REFUSED, taps, 2072, rooms[i]);
 }
 
 /* Wrong bytes that are repaired: of the scratch the first 2,072 bytes are written, and nothing else is. */

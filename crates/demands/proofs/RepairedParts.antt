@@ -1,5 +1,5 @@
 -- Worked consequences of demand 2 for what is repaired: what stands behind a built frame's preamble is shown as it came, and with its first byte wrong as it
--- was sent; so is the frame opened; and a part without bytes is refused.
+-- was sent; so is the frame opened; a part without bytes is refused; and a count of 0 tells that the frame came as it would be built.
 use mathlib.Core.Path.{_≡_, sym, ap, _∙_, subst}
 use mathlib.Core.Bool.{Bool, true, false, cond}
 use mathlib.Core.List.{List, [], _∷_, _++_}
@@ -10,6 +10,7 @@ use lib.ListN.{length, getD, take, drop, length-append, length-drop}
 use lib.Seq.{take-at, drop-at, drop-cons, length-take-le}
 use Rattle.basics.specs.Lists.{Bytes}
 use Rattle.lent.specs.Written.{written}
+use Rattle.lent.proofs.Written.{bytes-written}
 use Rattle.scrambler.specs.Scrambler.{tapsAllowed, scrambled}
 use Rattle.header.specs.Header.{ReservedBits, headerFits}
 use Rattle.header.specs.declared.Header.{Header}
@@ -22,8 +23,9 @@ use Rattle.repairing.specs.NearPart.{Coded, NearPart}
 use Rattle.repairing.specs.Repairing.{repairRefusal, RepairOutcome, shownBytes}
 use Rattle.repairing.specs.declared.RepairAnswer.{RepairAnswer}
 use Rattle.repairing.specs.declared.RepairAnswer.the-variants.{Repaired}
+use Rattle.repairing.proofs.Differences.{differ-same}
 use Rattle.repairing.proofs.Coded.{near-itself}
-use Rattle.opening.specs.Opening.{unscrambled, OpenOutcome}
+use Rattle.opening.specs.Opening.{unscrambled, openedReserved, OpenOutcome}
 use Rattle.opening.specs.NearFrame.{NearFrame}
 use Rattle.opening.specs.declared.OpenAnswer.{OpenAnswer}
 use Rattle.opening.specs.declared.OpenAnswer.the-variants.{Opened}
@@ -61,11 +63,16 @@ module _ (taps : ℕ) (reserved : ReservedBits) (header : Header) (area : List �
   sent-size : length sent ≡ 2072
   sent-size = length-drop 9 frame ∙ ap (λ (n : ℕ). n - 9) (frame-length reserved header taps area long)
 
+  sent-itself : RepairableTo taps sent sent
+  sent-itself = record { part-size = sent-size; coded = sent-coded; near = near-itself sent }
+
+  pub sent-unrefused : (scratch : List ℕ) → 2072 ≤ length scratch → repairRefusal taps sent scratch ≡ 0
+  sent-unrefused scratch room = demand2-holds .repairs-exactly taps sent scratch .1 (allowed, room, (sent, sent-itself))
+
   pub as-sent : (before : List ℕ) (answer : RepairAnswer) (after : List ℕ) → 2072 ≤ length before → RepairOutcome taps sent before answer after
       → (answer ≡ Repaired 0) × (shownBytes answer sent after ≡ sent)
   as-sent before answer after room o =
-      let to : RepairableTo taps sent sent = record { part-size = sent-size; coded = sent-coded; near = near-itself sent } in
-      let back = demand2-holds .repair-back taps sent sent before answer after allowed room to o in
+      let back = demand2-holds .repair-back taps sent sent before answer after allowed room sent-itself o in
       (back .0 ∙ ap (λ (n : ℕ). Repaired n) (differences-self sent), back .1)
 
   -- its first byte is another
@@ -105,3 +112,17 @@ module _ (taps : ℕ) (reserved : ReservedBits) (header : Header) (area : List �
         → OpenOutcome taps came before answer after → (answer ≡ Opened header (differences came frame)) × (after ≡ written before 0 area)
     wrong-opened before answer after fits room o =
         demand2-holds .frame-back taps reserved header area came before answer after allowed fits long bytes room came-near o
+
+-- what is opened with a count of 0 is the very frame that would be built of the answer; and of bytes `open` leaves bytes
+module _ (taps : ℕ) (frame before : List ℕ) (header : Header) (after : List ℕ) where
+  pub none-wrong : OpenOutcome taps frame before (Opened header 0) after
+      → (area : List ℕ) × (frame ≡ frameBytesWith taps (openedReserved taps frame) header area)
+  none-wrong o =
+      let again = demand2-holds .frame-again taps frame before header 0 after o in
+      let size = frame-length (openedReserved taps frame) header taps (again .0) (again .1 .2) in
+      (again .0, differ-same frame _ (again .1 .0 .long ∙ sym size) (sym (again .1 .5)))
+
+  pub bytes-left : (repaired : ℕ) → Bytes before → OpenOutcome taps frame before (Opened header repaired) after → Bytes after
+  bytes-left repaired bytes o =
+      let again = demand2-holds .frame-again taps frame before header repaired after o in
+      subst Bytes (sym (again .1 .4)) (bytes-written before 0 (again .0) bytes (again .1 .3))
