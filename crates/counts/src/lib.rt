@@ -1,4 +1,6 @@
 // The two frame counts, TXFN and RXFN (source 000, 2.6.3.3). They stay apart: only our own is stepped.
+#![tactic(auto)]
+
 ghost use Rattle.std.specs.Prelude.{◌≡◌};
 ghost use Rattle.basics.specs.Counts.{next_txfn, missed_frames};
 

@@ -2,6 +2,8 @@
 //
 // The polynomial of the CRC-32 divides x^984 + x^888 + x^736 + x^672 + x^512 + x^368 + x^184 + 1, whose powers are of whole bytes. So the first eight bytes
 // of a message may be added to those that begin 12, 31, 39, 59, 77, 100 and 123 bytes later, and left out. The last 124 bytes are divided bit by bit.
+#![tactic(auto)]
+
 ghost use Rattle.std.specs.Prelude.{◌≡◌, ◌+◌, ◌/◌, ◌^◌, ◌≤◌, ◌<◌, length, drop};
 ghost use Rattle.std.specs.Int.Bits.{bit_xor};
 ghost use Rattle.division.specs.Doubling.{twice};

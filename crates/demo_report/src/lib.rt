@@ -1,4 +1,6 @@
 // What the demonstration tells: the lines of its table, ledgers of blocks, and totals.
+#![tactic(auto)]
+
 pub mod ledger;
 pub mod table;
 pub mod totals;

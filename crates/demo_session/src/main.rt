@@ -1,4 +1,6 @@
 // A session over a shaken beam: blocks of samples are put as packets, frames are built, lost, damaged, repaired or refused, and packets come out.
+#![tactic(auto)]
+
 mod far_end;
 mod near_end;
 mod readers;

@@ -1,5 +1,7 @@
 // The two who read the packets that come out. The recorder keeps every block, and counts the gaps between them; the tuner works on blocks that
 // follow each other, and keeps the newest run without a gap.
+#![tactic(auto)]
+
 ghost use Rattle.std.specs.Prelude.{◌≡◌, ℕ, List, [], ◌∷◌, ◌++◌, if◌then◌else◌, nat_eq};
 ghost use Rattle.demo_views.specs.Views.{Records, Tunes};
 

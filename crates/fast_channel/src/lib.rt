@@ -1,5 +1,7 @@
 // The messages of the fast channel (source 000, Tables 2-12 and 2-13): to an opcode and a payload of 16 bits, and back.
 // And the level that a code stands for.
+#![tactic(auto)]
+
 ghost use Rattle.std.specs.Prelude.{◌≡◌, ◌&&◌, ◌+◌, ◌*◌, ◌%◌, ◌≤◌, leb};
 ghost use Rattle.basics.specs.Numbers.{fits_bits};
 ghost use Rattle.fast_channel.specs.FastChannel.{lock_number, with_lock, lock_of, opcode_of, payload_of, message_fits, message_of, payload_rule};

@@ -1,5 +1,7 @@
 // The field of 256 elements, in which x^8 = x^7 + x^2 + x + 1. Sums are `^`; products are shifts and sums, with no table: of one byte, of sixteen
 // in an array, and of eight at once that stand in one number.
+#![tactic(auto)]
+
 ghost use Rattle.std.specs.Prelude.{◌≡◌, ℕ, ◌<◌, length, get_or};
 ghost use Rattle.field.specs.Field.{double, power, times};
 ghost use Rattle.field.specs.EachByte.{each_byte, times_each};

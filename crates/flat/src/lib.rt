@@ -1,6 +1,8 @@
 // The library's answers as C has them: the refusal's number, 0 for none, beside the values. A refusal's answer has the state as it was given, and zeros
 // elsewhere. States, headers and messages have a module each. What C can get wrong becomes something that the library refuses by the table's number, so that
 // the order of the refusals is the library's own.
+#![tactic(auto)]
+
 pub mod headers;
 pub mod messages;
 pub mod states;

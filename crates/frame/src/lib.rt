@@ -1,4 +1,6 @@
 // A header and an area built into a frame of 2,081 bytes. `opening` is the way back.
+#![tactic(auto)]
+
 mod coding;
 
 ghost use Rattle.std.specs.Prelude.{◌≡◌, ◌++◌, ◌≤◌, length};

@@ -1,4 +1,6 @@
 // The header of a frame: its fields, and the 16 bytes that are sent for them (source 000, 2.6.3.3).
+#![tactic(auto)]
+
 pub mod coding;
 
 ghost use Rattle.std.specs.Prelude.{◌≡◌};

@@ -1,4 +1,6 @@
 // What a receiver reads from the 16 bytes of a header (source 000, 2.6.3.3). Frames are opened with the same two functions, header_refusal and header_of.
+#![tactic(auto)]
+
 ghost use Rattle.std.specs.Prelude.{◌≡◌, [], ◌∷◌, ◌+◌, ◌*◌, ◌≤◌, length};
 ghost use Rattle.basics.specs.Numbers.{number_at};
 ghost use Rattle.lent.specs.Refusals.{first_of};

@@ -1,4 +1,6 @@
 // Joining the records of a DATA area to what is held, one after the other (01, "Receiving"). `fitting` judges the first before, `growing` joins each.
+#![tactic(auto)]
+
 pub mod fitting;
 pub mod growing;
 

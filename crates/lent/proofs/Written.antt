@@ -4,9 +4,10 @@ use mathlib.Core.List.{List, [], ◌++◌, append_assoc, append-nil}
 use Prim.Native.Nat.{ℕ, ◌+◌, ◌-◌, ◌≤◌, ◌<◌}
 use native.Mathlib.Nat.{add_assoc, add-zero, zero-add}
 use native.Mathlib.Omega.{arith}
-use lib.ListN.{length, get_or, take, drop, length-take, length-drop, length-append, drop_of_length-le, take-append-drop, get_or-append}
+use lib.ListN.{length, get_or, take, drop, length-take, length-drop, length-append, take-append-drop, get_or-append}
 use lib.Seq.{take-append-le, take-append-add, drop-append-le, drop-append-add, get_or-append-add, get_or-drop, get_or-take}
-use lib.Seq.{take_at, drop_at, drop-drop, drop-length, take-length, take_all, length-take-le}
+use lib.Seq.{take_at, drop_at, drop-drop, drop-length, length-take-le}
+use borrow.Rule.Slice.PartMut.{put_mid}
 use Rattle.basics.specs.Lists.{Bytes}
 use Rattle.basics.proofs.Lists.{bytes_append, bytes_take, bytes_drop}
 use Rattle.lent.specs.Written.{written}
@@ -62,13 +63,12 @@ written_append d at s t h =
     ∙ simp (append_assoc, length-append, add_assoc)
 
 -- what a copy into the part from at leaves of the whole
-pub copied_part : (d : List ℕ) (at : ℕ) (s : List ℕ) → at + length s ≤ length d
-    → take at d ++ ((take (length s) s ++ drop (length s) (take (length d - at) (drop at d))) ++ drop (length d - at) (drop at d)) ≡ written d at s
+pub copied_part : (d : List ℕ) (at : ℕ) (s : List ℕ) → put_mid at (at + length s - at) d s ≡ written d at s
 unfolding written
-copied_part d at s h =
-    let e : length (drop at d) ≤ length d - at = simp length-drop (omega arith) in
-    rw (take-length s, take_all (length d - at) (drop at d) e, drop_of_length-le (drop at d) {i = length d - at} e, append-nil, drop-drop)
-    (sym (append_assoc (take at d) s (drop (at + length s) d)))
+copied_part d at s =
+    let e : at + (at + length s - at) ≡ at + length s = omega arith in
+    ap (λ (l : List ℕ). take at d ++ (s ++ l)) (drop-drop (at + length s - at) at d ∙ ap (λ (n : ℕ). drop n d) e)
+    ∙ sym (append_assoc (take at d) s (drop (at + length s) d))
 
 -- as many bytes as the buffer has
 pub written_whole : (d s : List ℕ) → length s ≡ length d → written d 0 s ≡ s

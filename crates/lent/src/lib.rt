@@ -1,4 +1,6 @@
 // Writing into lent bytes, the one way in which the crates above change a buffer; and whether two parts hold the same bytes.
+#![tactic(auto)]
+
 pub mod numbers;
 
 ghost use Rattle.std.specs.Prelude.{◌≡◌, ◌+◌, ◌≤◌, length};
@@ -10,12 +12,12 @@ pub fn write_at(buffer: &mut [u8], at: usize, source: &[u8])
     requires { at + length source.now ≤ length buffer.old }
     ensures { buffer.new ≡ written buffer.old at source.now }
 {
-    bytes::copy(source, &mut buffer[at..]);
+    buffer[at..at + source.len()].copy_from_slice(source);
 }
 
 // Whether two parts hold the same bytes.
 pub fn are_same(a: &[u8], b: &[u8]) -> bool
     ensures { result ≡ same a.now b.now }
 {
-    check::same(a, b)
+    a == b
 }

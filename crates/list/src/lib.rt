@@ -1,4 +1,6 @@
 // Reading the list of packets received: the numbers of an entry, and the packet as the very bytes of the list (01, "Reading the list").
+#![tactic(auto)]
+
 ghost use Rattle.std.specs.Prelude.{◌≡◌, ◌+◌, ◌≤◌, length};
 ghost use Rattle.list.specs.Entries.{length_at, EntryOutcome, PacketOutcome};
 

@@ -1,6 +1,8 @@
 // The listing program: opens frames from standard input, applies them to one receiver, fresh at the start, and prints a line for each
 // (01, end of "Numbers to try"). What a line says, and what a receiver does, is library code with contracts; here is only reading and printing.
 // A program of this language has no exit status: where the listing is not complete it says so on standard error, and ./list_frames heeds that.
+#![tactic(auto)]
+
 mod ending;
 mod input;
 

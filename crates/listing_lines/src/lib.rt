@@ -1,4 +1,6 @@
 // The lines of a listing, as text (01, the listing program): written into lent bytes, which a program then prints.
+#![tactic(auto)]
+
 ghost use Rattle.std.specs.Prelude.{◌≡◌, [], ◌∷◌, ◌++◌, ◌+◌, ◌≤◌, length};
 ghost use Rattle.lent.specs.Written.{written};
 ghost use Rattle.receiver.specs.Applying.{receiver_after};

@@ -1,5 +1,7 @@
 // Marks: the two bytes, high byte first, before a packet in the queue and in the list and before a record in an area. And whether the queue's ring is whole,
 // judged mark by mark.
+#![tactic(auto)]
+
 pub mod records;
 
 ghost use Rattle.std.specs.Prelude.{◌≡◌, ◌+◌, ◌*◌, ◌<◌, ◌≤◌, true, ◌&&◌, [], length, drop, nat_le, slice_index};

@@ -1,4 +1,6 @@
 // Repair of damaged bytes: the codeword that differs from a word in at most 8 bytes, given what division leaves of the word.
+#![tactic(auto)]
+
 mod errors;
 mod locating;
 mod places;

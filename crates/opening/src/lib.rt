@@ -1,4 +1,6 @@
 // A frame that arrived, opened: judged, and read back to its header and its area.
+#![tactic(auto)]
+
 mod judging;
 
 ghost use Rattle.std.specs.Prelude.{◌≡◌, ◌≤◌, length};

@@ -1,4 +1,6 @@
 // What the trial of a record comes to. Bytes that differ are never called the same.
+#![tactic(auto)]
+
 ghost use Rattle.std.specs.Prelude.{◌↔◌, ◌≡◌};
 
 #[derive(Drop)]

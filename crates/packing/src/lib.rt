@@ -1,5 +1,7 @@
 // The bench's own packing: reading the records of a DATA area. What an area may hold is `Allowed` in specs/Rules.antt, what a frame takes from the queue is
 // `fill`, which crate sender writes (`filling`).
+#![tactic(auto)]
+
 ghost use Rattle.std.specs.Prelude.{◌≡◌, ◌+◌, ◌<◌, length, drop};
 ghost use Rattle.basics.specs.Lists.{is_some};
 ghost use Rattle.packing.specs.Records.{all_zero, end_at, record_at, read};

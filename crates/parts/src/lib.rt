@@ -1,4 +1,6 @@
 // Parts of the work on a frame, for C to call: bench/run counts the instructions of each. The library's own calls for C stand in `taqwelim`.
+#![tactic(auto)]
+
 ghost use Rattle.std.specs.Prelude.{◌≡◌, length};
 ghost use Rattle.basics.specs.Lists.{Bytes, is_some};
 ghost use Rattle.reed_solomon.specs.Code.{remainder_of};

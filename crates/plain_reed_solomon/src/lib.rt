@@ -1,5 +1,7 @@
 // The plain form of the Reed-Solomon code, for a reader who holds it against 2.6.3.6.3: word by word, by long division with a register of 16 bytes.
 // The quick forms, with the same contracts, stand in crate reed_solomon (one word) and its module interleaving (a payload).
+#![tactic(auto)]
+
 ghost use Rattle.std.specs.Prelude.{◌≡◌, ◌≤◌, ◌<◌, length, take};
 ghost use mathlib.Core.List.{tail};
 ghost use Rattle.field.specs.Field.{times};

@@ -1,5 +1,7 @@
 // The scrambler in its plain form, a bit at a time as the definition goes: the code that a reader compares with the standard, and the trials run beside
 // crate scrambler.
+#![tactic(auto)]
+
 ghost use Rattle.std.specs.Prelude.{◌≡◌};
 ghost use Rattle.scrambler.specs.Scrambler.{scrambled};
 

@@ -1,4 +1,6 @@
 // What the programs that try and show the library have in common: they print, and they count. No contract can say what is printed.
+#![tactic(auto)]
+
 ghost use Rattle.std.specs.Prelude.{◌≤◌, ◌<◌};
 
 use libc::STDOUT_FILENO;

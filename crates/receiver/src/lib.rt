@@ -1,4 +1,6 @@
 // The receiver: packets come out of opened frames whole and in their turn, or not at all, and the frames missed are counted (01, "Receiving").
+#![tactic(auto)]
+
 ghost use Rattle.std.specs.Prelude.{◌≡◌, cond, eqb};
 ghost use Rattle.lent.specs.Refusals.{first_of};
 ghost use Rattle.link.specs.Link.{missed};

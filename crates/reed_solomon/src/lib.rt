@@ -1,4 +1,6 @@
 // The Reed-Solomon code of 255 bytes, 239 of them data, over the field of 256 elements: one word here, the eight words of a payload in `interleaving`.
+#![tactic(auto)]
+
 pub mod interleaving;
 pub mod register;
 

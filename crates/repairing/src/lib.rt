@@ -1,4 +1,6 @@
 // The repair of a frame's bytes after its preamble: up to 8 wrong ones in the coded header and in each of the eight payload words.
+#![tactic(auto)]
+
 pub mod body;
 
 ghost use Rattle.std.specs.Prelude.{◌≡◌, cond, [], ◌∷◌, ◌≤◌, eqb, length, take};

@@ -1,5 +1,7 @@
 // A lent buffer used as a ring (02, M-105): its bytes are read and written from a start on, and behind its last byte stands its first.
 // No call copies in more than two parts.
+#![tactic(auto)]
+
 ghost use Rattle.std.specs.Prelude.{◌≡◌, ◌+◌, ◌≤◌, length, take, drop};
 ghost use Rattle.lent.specs.Written.{written};
 ghost use Rattle.ring.specs.Ring.{round_from, ring_written};

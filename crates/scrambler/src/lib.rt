@@ -1,5 +1,7 @@
 // The scrambler of a frame. Its bits are defined one by one (specs/Scrambler.antt) and made 64 at a time (levels.rt); crate plain_scrambler makes them one by
 // one, as the definition has them.
+#![tactic(auto)]
+
 pub mod bits;
 mod levels;
 mod sums;

@@ -1,5 +1,7 @@
 // The sender: packets are put into a lent ring of 32,768 bytes (01, "Queue"; 02, M-105), and what waits there is counted. `filling` takes packets off the
 // ring again for a frame.
+#![tactic(auto)]
+
 pub mod filling;
 
 ghost use Rattle.std.specs.Prelude.{◌≡◌};

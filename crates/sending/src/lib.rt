@@ -1,4 +1,6 @@
 // The next frame: what waits in the ring goes out frame by frame (01, "Next frame"; 02, M-105).
+#![tactic(auto)]
+
 ghost use Rattle.std.specs.Prelude.{◌≡◌, cond, eqb};
 ghost use Rattle.basics.specs.Counts.{next_txfn};
 ghost use Rattle.header.specs.declared.FrameKind.TheVariants.{Idle, Data};

@@ -1,4 +1,6 @@
 // The calls for C: each is one call of the library, on what C's numbers stand for, and its answer as numbers. include/taqwelim.h declares them.
+#![tactic(auto)]
+
 ghost use Rattle.taqwelim.specs.Calls.{FreshSenderCall, PutCall, WaitingCall, NextCall, FreshReceiverCall, OpenCall, RepairCall, ApplyCall};
 ghost use Rattle.taqwelim.specs.Calls.{EntryCall, PacketCall, CodeCall, ReadCall, LevelCall};
 

@@ -1,5 +1,7 @@
 // Runs the proved libraries against published check values and against the second coder's vectors, which it reads from
 // standard input, and prints how many agree, and how many of those that are planted, and wrong, do not. `tests/README.md` says where the vectors come from.
+#![tactic(auto)]
+
 mod kinds;
 
 use code_trials::published;
