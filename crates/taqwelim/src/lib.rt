@@ -13,16 +13,14 @@ use flat::{
 use receiver::Receiver;
 use sender::Sender;
 
-#[unsafe(no_mangle)]
-pub extern "C" fn taqwelim_fresh_sender() -> FlatSender
+pub fn taqwelim_fresh_sender() -> FlatSender
     ensures { FreshSenderCall result }
 {
     states::flat_sender(Sender::fresh())
 }
 
 // Refusals: 2, 3, 4, 5.
-#[unsafe(no_mangle)]
-pub extern "C" fn taqwelim_put(queue: &mut [u8], sender: FlatSender, packet: &[u8]) -> FlatPut
+pub fn taqwelim_put(queue: &mut [u8], sender: FlatSender, packet: &[u8]) -> FlatPut
     ensures { PutCall queue.old sender packet.now result queue.new }
 {
     let answer = sender::put(queue, states::sender_of(sender), packet);
@@ -30,8 +28,7 @@ pub extern "C" fn taqwelim_put(queue: &mut [u8], sender: FlatSender, packet: &[u
 }
 
 // Refusals: 2, 3.
-#[unsafe(no_mangle)]
-pub extern "C" fn taqwelim_waiting(queue: &[u8], sender: FlatSender) -> FlatWaiting
+pub fn taqwelim_waiting(queue: &[u8], sender: FlatSender) -> FlatWaiting
     ensures { WaitingCall queue.now sender result }
 {
     let answer = sender::waiting(queue, states::sender_of(sender));
@@ -39,8 +36,7 @@ pub extern "C" fn taqwelim_waiting(queue: &[u8], sender: FlatSender) -> FlatWait
 }
 
 // Refusals: 1, 2, 3, 6.
-#[unsafe(no_mangle)]
-pub extern "C" fn taqwelim_next_frame(
+pub fn taqwelim_next_frame(
     taps: u32,
     fields: FlatFields,
     sender: FlatSender,
@@ -59,16 +55,14 @@ pub extern "C" fn taqwelim_next_frame(
     flat::flat_next(sender, answer)
 }
 
-#[unsafe(no_mangle)]
-pub extern "C" fn taqwelim_fresh_receiver() -> FlatReceiver
+pub fn taqwelim_fresh_receiver() -> FlatReceiver
     ensures { FreshReceiverCall result }
 {
     states::flat_receiver(Receiver::fresh())
 }
 
 // Refusals: 1, 2, 7 to 9, 11 to 13.
-#[unsafe(no_mangle)]
-pub extern "C" fn taqwelim_open(taps: u32, frame: &[u8], area: &mut [u8]) -> FlatOpen
+pub fn taqwelim_open(taps: u32, frame: &[u8], area: &mut [u8]) -> FlatOpen
     ensures { OpenCall taps frame.now area.old result area.new }
 {
     let answer = opening::open(taps, frame, area);
@@ -76,8 +70,7 @@ pub extern "C" fn taqwelim_open(taps: u32, frame: &[u8], area: &mut [u8]) -> Fla
 }
 
 // Refusals: 1, 2, 8, 12. The repaired bytes are the part itself where the count is 0, and otherwise the first 2,072 of the scratch.
-#[unsafe(no_mangle)]
-pub extern "C" fn taqwelim_repair(taps: u32, part: &[u8], scratch: &mut [u8]) -> FlatRepair
+pub fn taqwelim_repair(taps: u32, part: &[u8], scratch: &mut [u8]) -> FlatRepair
     ensures { RepairCall taps part.now scratch.old result scratch.new }
 {
     let answer = repairing::repair(taps, part, scratch);
@@ -85,8 +78,7 @@ pub extern "C" fn taqwelim_repair(taps: u32, part: &[u8], scratch: &mut [u8]) ->
 }
 
 // Refusals: 2, 3, 11, 14, 15.
-#[unsafe(no_mangle)]
-pub extern "C" fn taqwelim_apply(
+pub fn taqwelim_apply(
     header: FlatHeader,
     area: &[u8],
     receiver: FlatReceiver,
@@ -102,24 +94,21 @@ pub extern "C" fn taqwelim_apply(
 }
 
 // Refusal: 16.
-#[unsafe(no_mangle)]
-pub extern "C" fn taqwelim_entry(list: &[u8], position: usize) -> FlatEntry
+pub fn taqwelim_entry(list: &[u8], position: usize) -> FlatEntry
     ensures { EntryCall list.now position result }
 {
     flat::flat_entry(list::entry(list, position))
 }
 
 // Where the packet stands in the caller's list, for C has no slices.
-#[unsafe(no_mangle)]
-pub extern "C" fn taqwelim_packet(list: &[u8], position: usize) -> FlatPacket
+pub fn taqwelim_packet(list: &[u8], position: usize) -> FlatPacket
     ensures { PacketCall list.now position result }
 {
     flat::flat_packet(list::entry(list, position))
 }
 
 // Refusals: 2, 6.
-#[unsafe(no_mangle)]
-pub extern "C" fn taqwelim_code_header(header: FlatHeader, out: &mut [u8]) -> FlatCode
+pub fn taqwelim_code_header(header: FlatHeader, out: &mut [u8]) -> FlatCode
     ensures { CodeCall header out.old result out.new }
 {
     let answer = header::code_header(headers::header_of(header), out);
@@ -127,15 +116,13 @@ pub extern "C" fn taqwelim_code_header(header: FlatHeader, out: &mut [u8]) -> Fl
 }
 
 // Refusals: 2, 9, 11.
-#[unsafe(no_mangle)]
-pub extern "C" fn taqwelim_read_header(bytes: &[u8]) -> FlatRead
+pub fn taqwelim_read_header(bytes: &[u8]) -> FlatRead
     ensures { ReadCall bytes.now result }
 {
     flat::flat_read(header_reading::read_header(bytes))
 }
 
-#[unsafe(no_mangle)]
-pub extern "C" fn taqwelim_level(code: u8) -> i32
+pub fn taqwelim_level(code: u8) -> i32
     ensures { LevelCall code result }
 {
     fast_channel::level(code)
