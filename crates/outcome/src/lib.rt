@@ -3,7 +3,7 @@
 
 ghost use Rattle.std.specs.Prelude.{◌↔◌, ◌≡◌};
 
-#[derive(Drop)]
+#[derive(Clone, Copy)]
 pub enum Outcome {
     Same,
     Different,
@@ -15,7 +15,7 @@ pub enum Outcome {
 pub fn of(found: &[u8], expected: &[u8]) -> Outcome
     ensures { (result ≡ Outcome.Same) ↔ (found.now ≡ expected.now) }
 {
-    if check::same(found, expected) {
+    if found == expected {
         Outcome::Same
     } else {
         Outcome::Different
