@@ -1,2 +1,1 @@
 pub mod Channel
-pub mod Signed

@@ -170,6 +170,7 @@ pub fn message_fits(message: FastChannel) -> bool
     }
 }
 
+#[tactic(auto, unfolding(crate::specs::FastChannel::message_of))]
 pub fn message_of(opcode: u8, payload: u16) -> FastChannel
     ensures { result ≡ message_of opcode payload }
 {
@@ -203,6 +204,7 @@ pub fn message_of(opcode: u8, payload: u16) -> FastChannel
 }
 
 // A received payload goes by the rule of its opcode.
+#[tactic(auto, unfolding(crate::specs::FastChannel::payload_rule))]
 pub fn payload_rule(opcode: u8, payload: u16) -> bool
     ensures { result ≡ payload_rule opcode payload }
 {
