@@ -5,11 +5,11 @@ ghost use Rattle.std.specs.Prelude.{◌≡◌};
 ghost use Rattle.basics.specs.Counts.{next_txfn, missed_frames};
 
 // TXFN: our count of our own frames, of every type.
-#[derive(Drop)]
+#[derive(Clone, Copy)]
 pub struct Txfn(pub u16);
 
 // RXFN: the far end's count of its own frames, which an acknowledgement names.
-#[derive(Drop)]
+#[derive(Clone, Copy)]
 pub struct Rxfn(pub u16);
 
 impl Txfn {

@@ -8,14 +8,14 @@ ghost use Rattle.fast_channel.specs.FastChannel.{lock_number, with_lock, lock_of
 ghost use Rattle.fast_channel.specs.Level.{LevelOutcome};
 
 // Frame synchronization over the time that a message reports on: lost at least once, or held.
-#[derive(Drop)]
+#[derive(Clone, Copy)]
 pub enum Lock {
     NotLocked,
     Locked,
 }
 
 // One message of the fast channel, out of nine kinds, with its opcode and the name that Table 2-12 gives it.
-#[derive(Drop)]
+#[derive(Clone, Copy)]
 pub enum FastChannel {
     // 0, LAPC_CRC_ERROR_REPORT: frames with a CRC error in the last second.
     CrcErrors(u16),

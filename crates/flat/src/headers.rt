@@ -10,7 +10,7 @@ use fast_channel::FastChannel;
 use header::{CodeAnswer, Fields, Header, coding};
 
 #[repr(C)]
-#[derive(Drop)]
+#[derive(Clone, Copy)]
 pub struct FlatFields {
     pub stamp: u64,
     pub rxfn: u16,
@@ -22,7 +22,7 @@ pub struct FlatFields {
 }
 
 #[repr(C)]
-#[derive(Drop)]
+#[derive(Clone, Copy)]
 pub struct FlatHeader {
     pub fields: FlatFields,
     pub txfn: u16,

@@ -5,7 +5,7 @@ ghost use Rattle.flat.specs.Messages.{first_most, second_most, third_most, numbe
 use fast_channel::FastChannel;
 
 #[repr(C)]
-#[derive(Drop)]
+#[derive(Clone, Copy)]
 pub struct FlatMessage {
     pub opcode: u8,
     pub first: u16,

@@ -8,7 +8,7 @@ use receiver::{Expected, Receiver};
 use sender::Sender;
 
 #[repr(C)]
-#[derive(Drop)]
+#[derive(Clone, Copy)]
 pub struct FlatSender {
     pub start: usize,
     pub used: usize,
@@ -36,7 +36,7 @@ pub fn flat_sender(sender: Sender) -> FlatSender
 }
 
 #[repr(C)]
-#[derive(Drop)]
+#[derive(Clone, Copy)]
 pub struct FlatReceiver {
     pub held: usize,
     pub expected: u16,

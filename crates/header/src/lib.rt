@@ -10,7 +10,7 @@ use counts::{Rxfn, Txfn};
 use fast_channel::FastChannel;
 
 // FRAME_TYPE, from 0 to 3. Type 2 is MGMT in the standard, and type 3 is reserved there.
-#[derive(Drop)]
+#[derive(Clone, Copy)]
 pub enum FrameKind {
     Idle,
     Data,
@@ -19,7 +19,7 @@ pub enum FrameKind {
 }
 
 // What a caller gives for a frame: every field but TXFN and the type.
-#[derive(Drop)]
+#[derive(Clone, Copy)]
 pub struct Fields {
     // 0 where `valid` is false.
     pub rxfn: Rxfn,
@@ -35,7 +35,7 @@ pub struct Fields {
     pub message: FastChannel,
 }
 
-#[derive(Drop)]
+#[derive(Clone, Copy)]
 pub struct Header {
     pub txfn: Txfn,
     pub kind: FrameKind,

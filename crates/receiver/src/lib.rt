@@ -15,14 +15,14 @@ use joining::fitting;
 use joining::growing::Joined;
 
 // The number that the next frame should have; none before the first frame.
-#[derive(Drop)]
+#[derive(Clone, Copy)]
 pub enum Expected {
     None,
     Frame(Txfn),
 }
 
 // What is expected, and how many bytes of the hold are held.
-#[derive(Drop)]
+#[derive(Clone, Copy)]
 pub struct Receiver {
     pub expected: Expected,
     pub held: usize,

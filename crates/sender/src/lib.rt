@@ -12,7 +12,7 @@ use basics::sizes;
 use counts::Txfn;
 
 // Where the waiting packets begin in the ring, how many of its bytes they use, and the number of the next frame.
-#[derive(Drop)]
+#[derive(Clone, Copy)]
 pub struct Sender {
     pub start: usize,
     pub used: usize,
