@@ -7,21 +7,17 @@ use borrow.Author.Tests.{lt-ltb, le-ltb}
 use Rattle.basics.specs.Numbers.{digit}
 use Rattle.scrambler.specs.Scrambler.{taps_allowed}
 use Rattle.scrambler.proofs.Stages.{digit_zero}
-use Rattle.scrambler.proofs.are_taps.Statement.{statement}
-use Rattle.scrambler.proofs.are_taps.Tie as tie
+use Rattle.scrambler.proofs.are_taps.Goals as goal
 
-returns : tie.Need-returns
+pub returns-then-taps-lt33554432 : goal.returns-then-taps-lt33554432
 unfolding taps_allowed
-returns c =
-    let taps = c.before.args.taps in
-    sym (ap₂ (λ (below : Bool) (x : ℕ). below && eqb x 1) (lt-ltb taps 0x2000000 c.if1.true) (digit_zero taps))
+returns-then-taps-lt33554432 c =
+    let taps = c.args.taps in
+    sym (ap₂ (λ (below : Bool) (x : ℕ). below && eqb x 1) (lt-ltb taps 0x2000000 c.if-taps-lt33554432.true) (digit_zero taps))
 
-returns-2 : tie.Need-returns-2
+pub returns-else-taps-lt33554432 : goal.returns-else-taps-lt33554432
 unfolding taps_allowed
-returns-2 c =
-    let taps = c.before.args.taps in
-    let above = le-ltb taps 0x2000000 c.if1.false in
+returns-else-taps-lt33554432 c =
+    let taps = c.args.taps in
+    let above = le-ltb taps 0x2000000 c.if-taps-lt33554432.false in
     above ∙ sym (ap (λ (below : Bool). below && eqb (digit 0 taps) 1) above)
-
-pub are-taps-spec : {M : Type 1} → statement M
-are-taps-spec = tie.close (tie.spec returns returns-2)
