@@ -5,7 +5,7 @@ ghost use Rattle.demo_scenario.specs.Beam.{wave_at, shake_at, fate_at, wrong_at,
 
 use basics::sizes;
 
-#[derive(Drop)]
+#[derive(Clone, Copy)]
 pub enum Fate {
     Arrives,
     Damaged,
@@ -13,13 +13,14 @@ pub enum Fate {
 }
 
 // Where a damaged frame is hit: the place of the first wrong byte, and how far each further one is behind the one before.
-#[derive(Drop)]
+#[derive(Clone, Copy)]
 pub struct Hit {
     pub first: usize,
     pub apart: usize,
 }
 
 // A wave that rises by one a frame and falls again.
+#[tactic(auto, unfolding(crate::specs::Beam::wave_at))]
 fn wave(frame: u64, period: u64) -> u64
     requires { 0 < period }
     ensures value { result ≡ wave_at frame period }
@@ -39,6 +40,7 @@ pub fn shake_at(frame: u16) -> u64
     2 * wave(at + 1, 22) + 5 * wave(at + 5, 9) + 3 * wave(at, 4)
 }
 
+#[tactic(auto, unfolding(crate::specs::Beam::fate_at))]
 pub fn fate_of(shake: u64) -> Fate
     ensures { result ≡ fate_at shake }
 {
@@ -61,6 +63,7 @@ fn wrong_in(frame: u16) -> u64
 }
 
 // Every sixteenth is hit from its first byte on, in its preamble first; of the others, one in its coded header and the next in a word of its payload.
+#[tactic(auto, unfolding(crate::specs::Beam::hit_at))]
 fn hit_of(frame: u16) -> Hit
     ensures value { result ≡ hit_at frame }
     ensures inside { (result.first ≤ 1041) × (result.apart ≤ 8) }

@@ -12,6 +12,7 @@ pub fn length_of(number: u16) -> usize
     50 + number as usize * 1237 % 4300
 }
 
+#[tactic(auto, unfolding(crate::specs::Blocks::sample_of))]
 fn sample(number: u16, place: usize) -> u8
     ensures { result ≡ sample_of number place }
 {
@@ -60,6 +61,7 @@ fn of_two(high: u8, low: u8) -> u16
 }
 
 // The number of a block that came out.
+#[tactic(auto, unfolding(crate::specs::Blocks::number_in))]
 pub fn number_of(block: &[u8]) -> u16
     ensures { result ≡ number_in block.now }
 {
