@@ -19,7 +19,7 @@ fn first_with(number: u64, due: u64, first: u64) -> u64
     if number == due { first } else { number }
 }
 
-#[derive(Drop)]
+#[derive(Clone, Copy)]
 pub struct Recorder {
     pub blocks: u64,
     pub gaps: u64,
@@ -45,15 +45,15 @@ impl Recorder {
         let place = number as u64;
         let more = gaps_before(place, self.due);
         Recorder {
-            blocks: std::num::wrapping_add_u64(self.blocks, 1),
-            gaps: std::num::wrapping_add_u64(self.gaps, more),
+            blocks: self.blocks.wrapping_add(1),
+            gaps: self.gaps.wrapping_add(more),
             due: place + 1,
         }
     }
 }
 
 // The newest run without a gap: the blocks from `first` up to the one before `due`.
-#[derive(Drop)]
+#[derive(Clone, Copy)]
 pub struct Tuner {
     pub first: u64,
     pub due: u64,
