@@ -13,7 +13,6 @@ use Rattle.basics.specs.Lists.{zeros, Bytes}
 use Rattle.basics.proofs.Lists.{bytes_drop}
 use Rattle.link.proofs.RoundTrip.{marked_back}
 use Rattle.link.specs.Link.{Piece}
-use Rattle.link.specs.Store.{marked}
 use Rattle.link.specs.Parsing.{mark_at}
 use Rattle.link.proofs.Store.{mark_back}
 use Rattle.packing.specs.declared.Record.{Record}
