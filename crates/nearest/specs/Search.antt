@@ -2,7 +2,7 @@
 -- anything here. A polynomial is a list of coefficients, lowest power first. A word's place n has n places behind it; the place's number is
 -- `locator n`, 2 to the power 11 n. What is added to a word to make it the codeword is its error; the places where that is not 0 are the wrong ones.
 use mathlib.Core.List.{List, [], ◌∷◌, ◌++◌, tail}
-use Rattle.std.specs.Prelude.{ℕ, zero, suc, ◌+◌, ◌-◌, ◌*◌, ◌<◌, get_or, set}
+use Rattle.std.specs.Prelude.{ℕ, zero, suc, ◌-◌, ◌*◌, ◌<◌, get_or, set}
 use Rattle.std.specs.Int.Bits.{bit_xor}
 use Rattle.basics.specs.Lists.{zeros}
 use Rattle.field.specs.Field.{times}
