@@ -2,8 +2,10 @@
 ghost use Rattle.std.specs.Prelude.{◌≡◌, ◌<◌, ◌≤◌, false};
 
 use printing::more;
+use std::io;
+use std::io::Write;
 
-#[derive(Drop)]
+#[derive(Clone, Copy)]
 pub struct Count {
     pub compared: u64,
     pub different: u64,
@@ -35,42 +37,55 @@ impl Count {
     }
 
     // A number that was found, beside the one that is published.
-    pub fn with_number(self, name: &[u8], found: u64, published: u64, digits: usize) -> Count {
-        printing::say(name);
-        printing::say(b" is ");
-        printing::hex(found, digits);
-        printing::say(b", published ");
-        printing::hex(published, digits);
-        printing::say(b"\n");
-        self.with(found == published)
+    pub fn with_number<W: Write>(
+        self,
+        out: &mut W,
+        name: &[u8],
+        found: u64,
+        published: u64,
+        digits: usize,
+    ) -> io::Result<Count> {
+        printing::say(out, name)?;
+        printing::say(out, b" is ")?;
+        printing::hex(out, found, digits)?;
+        printing::say(out, b", published ")?;
+        printing::hex(out, published, digits)?;
+        printing::say(out, b"\n")?;
+        Ok(self.with(found == published))
     }
 
     // Bytes that were found, and those that are published.
-    pub fn with_bytes(self, name: &[u8], found: &[u8], published: &[u8]) -> Count {
-        let same = check::same(found, published);
-        printing::say(name);
+    pub fn with_bytes<W: Write>(
+        self,
+        out: &mut W,
+        name: &[u8],
+        found: &[u8],
+        published: &[u8],
+    ) -> io::Result<Count> {
+        let same = found == published;
+        printing::say(out, name)?;
         if same {
-            printing::say(b" as published\n");
+            printing::say(out, b" as published\n")?;
         } else {
-            printing::say(b" NOT as published\n");
+            printing::say(out, b" NOT as published\n")?;
         }
-        self.with(same)
+        Ok(self.with(same))
     }
 
     // A line of the table.
-    pub fn print_row(self, name: &[u8]) {
-        printing::number(self.compared);
-        printing::say(b" ");
-        printing::number(self.different);
-        printing::say(b" ");
-        printing::say(name);
-        printing::say(b"\n");
+    pub fn print_row<W: Write>(self, out: &mut W, name: &[u8]) -> io::Result<()> {
+        printing::number(out, self.compared)?;
+        printing::say(out, b" ")?;
+        printing::number(out, self.different)?;
+        printing::say(out, b" ")?;
+        printing::say(out, name)?;
+        printing::say(out, b"\n")
     }
 
-    pub fn print(self) {
-        printing::number(self.compared);
-        printing::say(b" compared, ");
-        printing::number(self.different);
-        printing::say(b" different");
+    pub fn print<W: Write>(self, out: &mut W) -> io::Result<()> {
+        printing::number(out, self.compared)?;
+        printing::say(out, b" compared, ")?;
+        printing::number(out, self.different)?;
+        printing::say(out, b" different")
     }
 }

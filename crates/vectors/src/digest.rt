@@ -8,7 +8,7 @@ fn times_prime(number: u64) -> u64 {
     let low = number % 4294967296 * 435;
     let high = number / 4294967296 * 435 % 4294967296 * 4294967296;
     let top = number % 16777216 * 1099511627776;
-    std::num::wrapping_add_u64(std::num::wrapping_add_u64(low, high), top)
+    low.wrapping_add(high).wrapping_add(top)
 }
 
 fn wide(byte: u8) -> u64 {

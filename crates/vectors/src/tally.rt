@@ -3,6 +3,8 @@ ghost use Rattle.std.specs.Prelude.{◌<◌};
 
 use crate::count::Count;
 use outcome::Outcome;
+use std::io;
+use std::io::Write;
 
 // A record's kind is a number below this one. One that is planted has so much more: what it expects is wrong, and it has to come out as different.
 pub const PLANTED: u8 = 64;
@@ -21,7 +23,7 @@ fn totals_place(kind: u8) -> usize
     if is_planted(kind) { 1 } else { 0 }
 }
 
-#[derive(Drop)]
+#[derive(Clone, Copy)]
 pub struct Tally {
     // By kind.
     pub kinds: [Count; KINDS],
@@ -46,23 +48,23 @@ impl Tally {
     }
 
     // With one record more. A line says of it what it should not be.
-    pub fn with(self, kind: u8, outcome: Outcome) -> Tally {
+    pub fn with<W: Write>(self, out: &mut W, kind: u8, outcome: Outcome) -> io::Result<Tally> {
         match outcome {
             Outcome::Same => {
                 if is_planted(kind) {
-                    self.print_place(kind, b" is planted, and does not differ\n");
+                    self.print_place(out, kind, b" is planted, and does not differ\n")?;
                 }
-                self.compared(kind, true)
+                Ok(self.compared(kind, true))
             }
             Outcome::Different => {
                 if !is_planted(kind) {
-                    self.print_place(kind, b" differs\n");
+                    self.print_place(out, kind, b" differs\n")?;
                 }
-                self.compared(kind, false)
+                Ok(self.compared(kind, false))
             }
             Outcome::Malformed => {
-                self.print_place(kind, b" is malformed\n");
-                self.refused()
+                self.print_place(out, kind, b" is malformed\n")?;
+                Ok(self.refused())
             }
         }
     }
@@ -89,67 +91,69 @@ impl Tally {
     }
 
     // The input ended before the end of the record at this place.
-    pub fn cut_short(self) -> Tally {
-        printing::say(b"the input ends before the end of record ");
-        printing::number(self.place);
-        printing::say(b"\n");
+    pub fn cut_short<W: Write>(self, out: &mut W) -> io::Result<Tally> {
+        printing::say(out, b"the input ends before the end of record ")?;
+        printing::number(out, self.place)?;
+        printing::say(out, b"\n")?;
         let mut next = self.refused();
         next.goes_on = false;
-        next
+        Ok(next)
     }
 
     // After the last record.
-    pub fn ended(self, is_at_end: bool) -> Tally {
+    pub fn ended<W: Write>(self, out: &mut W, is_at_end: bool) -> io::Result<Tally> {
         if is_at_end {
-            return self;
+            return Ok(self);
         }
-        printing::say(b"bytes follow the last record\n");
-        self.refused()
+        printing::say(out, b"bytes follow the last record\n")?;
+        Ok(self.refused())
     }
 
-    fn print_place(self, kind: u8, what: &[u8]) {
-        printing::say(b"record ");
-        printing::number(self.place);
-        printing::say(b" of kind ");
-        printing::number(kind as u64);
-        printing::say(what);
+    fn print_place<W: Write>(self, out: &mut W, kind: u8, what: &[u8]) -> io::Result<()> {
+        printing::say(out, b"record ")?;
+        printing::number(out, self.place)?;
+        printing::say(out, b" of kind ")?;
+        printing::number(out, kind as u64)?;
+        printing::say(out, what)
     }
 
-    fn print_kind(self, kind: u64, name: &[u8]) {
+    fn print_kind<W: Write>(self, out: &mut W, kind: u64, name: &[u8]) -> io::Result<()> {
         let at = kind as usize;
         if at < KINDS {
             let of_kind = self.kinds[at];
-            of_kind.print_row(name);
+            of_kind.print_row(out, name)?;
         }
+        Ok(())
     }
 
     // The lines of the kinds from a number on. Each name ends in a new line.
-    pub fn print_kinds(self, first: u64, names: &[u8]) {
+    pub fn print_kinds<W: Write>(self, out: &mut W, first: u64, names: &[u8]) -> io::Result<()> {
         let mut kind = first;
         let mut start: usize = 0;
         let mut i: usize = 0;
         while i < names.len() {
             if names[i] == 10 {
-                self.print_kind(kind, &names[start..i]);
+                self.print_kind(out, kind, &names[start..i])?;
                 kind = printing::more(kind);
                 start = i + 1;
             }
             i += 1;
         }
+        Ok(())
     }
 
     // The last lines.
-    pub fn print_totals(self, announced: u64) {
+    pub fn print_totals<W: Write>(self, out: &mut W, announced: u64) -> io::Result<()> {
         let total = self.totals[0];
         let planted = self.totals[1];
-        printing::say(b"planted vectors ");
-        planted.print();
-        printing::say(b"\nvectors ");
-        printing::number(announced);
-        printing::say(b" announced, ");
-        total.print();
-        printing::say(b", ");
-        printing::number(self.malformed);
-        printing::say(b" malformed\n");
+        printing::say(out, b"planted vectors ")?;
+        planted.print(out)?;
+        printing::say(out, b"\nvectors ")?;
+        printing::number(out, announced)?;
+        printing::say(out, b" announced, ")?;
+        total.print(out)?;
+        printing::say(out, b", ")?;
+        printing::number(out, self.malformed)?;
+        printing::say(out, b" malformed\n")
     }
 }
