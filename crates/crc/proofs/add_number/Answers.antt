@@ -1,5 +1,4 @@
 -- The eight bytes that are written are the sum of those that were there and the number's (`number_added`).
-use native.Mathlib.Omega.{arith}
 use mathlib.Core.Path.{ap, ◌∙◌}
 use lib.Bits.{bit_xor}
 use lib.ListN.{drop}

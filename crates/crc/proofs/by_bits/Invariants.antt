@@ -1,11 +1,9 @@
 -- A turn takes one byte (`bytes_turn`): what the bytes from i on make of the register is the check sum of the message.
-use native.Mathlib.Omega.{arith}
-use mathlib.Core.Path.{◌≡◌, sym, ◌∙◌}
+use mathlib.Core.Path.{◌≡◌}
 use Prim.Native.Nat.{◌-◌, ◌/◌, ◌^◌, ◌≤◌, ◌<◌}
-use lib.Dec.{lit<}
 use lib.ListN.{length, drop}
 use Rattle.crc.specs.Crc.{crc}
-use Rattle.crc.proofs.Bytes.{byte_steps, crc_bytes, bytes_turn, bytes_end}
+use Rattle.crc.proofs.Bytes.{byte_steps}
 use Rattle.crc.proofs.by_bits.Given as goal
 
 abbrev pub invariant-loop-i : goal.invariant-loop-i

@@ -1,10 +1,7 @@
 -- The byte is added at the top (`byte_added`); each turn doubles once (`bits_turn`), so that after n turns 8 - n doublings are left to do.
-use native.Mathlib.Omega.{arith}
-use mathlib.Core.Path.{◌≡◌, refl, sym, ◌∙◌}
-use Prim.Native.Nat.{◌-◌, ◌*◌, ◌/◌, ◌^◌, ◌≤◌, ◌<◌}
-use lib.Bits.{xor_lt}
+use mathlib.Core.Path.{◌≡◌}
+use Prim.Native.Nat.{◌-◌, ◌/◌, ◌^◌, ◌≤◌, ◌<◌}
 use Rattle.crc.specs.Register.{byte_step, doubled}
-use Rattle.crc.proofs.Bytes.{byte_added, bits_turn, bits_end}
 use Rattle.crc.proofs.byte_step.Given as goal
 
 abbrev pub invariant-loop-n : goal.invariant-loop-n

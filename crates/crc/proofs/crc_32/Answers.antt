@@ -1,8 +1,8 @@
 -- A turn leaves out eight bytes and keeps the check sum of the rest (`fold_turn`), so that of the last 124 is that of the message.
 use native.Mathlib.Omega.{arith}
 use mathlib.Core.Path.{◌≡◌, refl, ap, ◌∙◌}
-use Prim.Native.Nat.{◌-◌, ◌%◌, ◌≤◌}
-use lib.ListN.{length, drop}
+use Prim.Native.Nat.{◌-◌}
+use lib.ListN.{length}
 use borrow.Rule.Slice.PartMut.{same_len_mid}
 use Rattle.basics.specs.Lists.{zeros}
 use Rattle.lent.proofs.Written.{written_whole}

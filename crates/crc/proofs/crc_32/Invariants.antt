@@ -1,13 +1,8 @@
 -- A turn leaves out eight bytes and keeps the check sum of the rest (`fold_turn`), so that of the last 124 is that of the message.
-use native.Mathlib.Omega.{arith}
-use mathlib.Core.Path.{◌≡◌, refl, ap, ◌∙◌}
+use mathlib.Core.Path.{◌≡◌}
 use Prim.Native.Nat.{◌-◌, ◌%◌, ◌≤◌}
 use lib.ListN.{length, drop}
-use borrow.Rule.Slice.PartMut.{same_len_mid}
-use Rattle.basics.specs.Lists.{zeros}
-use Rattle.lent.proofs.Written.{written_whole}
 use Rattle.crc.specs.Crc.{crc_32}
-use Rattle.crc.proofs.Folding.{to_the_end, fold_turn}
 use Rattle.crc.proofs.crc_32.Given as goal
 
 abbrev pub invariant-loop-i : goal.invariant-loop-i

@@ -1,5 +1,4 @@
 -- Seven equations, one for each number that is added, end to end (`one_more`); together they leave out the front (`folded`).
-use native.Mathlib.Omega.{arith}
 use mathlib.Core.Path.{◌≡◌, refl, ◌∙◌}
 use lib.ListN.{length, drop}
 use Rattle.basics.proofs.Lists.{bytes_each}
