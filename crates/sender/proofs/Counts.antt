@@ -12,7 +12,7 @@ use Rattle.lent.specs.Refusals.{first_of, by}
 use Rattle.lent.proofs.Refusals.{accepted}
 use Rattle.link.specs.Link.{Packet, Queue, empty}
 use Rattle.link.specs.Store.{marked}
-use Rattle.link.specs.Parsing.{parse, packets_in, isWhole}
+use Rattle.link.specs.Parsing.{parse, packets_in, is_whole}
 use Rattle.link.proofs.Machine.{with_packet}
 use Rattle.ring.proofs.Laws.{ring_length}
 use Rattle.marks.specs.Queue.{used_in, is_ring_whole, waiting_in, parts_with, bytes_in, packet_count, byte_count}
@@ -48,7 +48,7 @@ module _ (queue : List ℕ) (sender : Sender) where
 module _ (bytes : List ℕ) (sender : Sender) (queue : Queue) (size : length bytes ≡ 32768) (within : sender.start < 32768) (most : sender.used ≤ 32768)
     (e : parse (used_in bytes sender.start sender.used) ≡ some queue) where
   is_whole_lem : is_ring_whole bytes sender.start sender.used ≡ true
-  unfolding is_ring_whole isWhole
+  unfolding is_ring_whole is_whole
   is_whole_lem = rw (lt-ltb sender.start 32768 within, le-leb sender.used 32768 most) (ap is_some e)
 
   stands_counted : (answer : WaitingAnswer) → WaitingOutcome bytes sender answer → answer ≡ counted queue

@@ -1,0 +1,24 @@
+-- The mark, then the bytes off the ring: one record.
+use mathlib.Core.Path.{◌≡◌, ap, ◌∙◌}
+use mathlib.Core.List.{List, []}
+use native.Mathlib.Omega.{arith}
+use Prim.Native.Nat.{ℕ, ◌+◌}
+use lib.ListN.{length, take, drop, length-take, length-drop}
+use Rattle.link.specs.Store.{marked}
+use Rattle.lent.specs.Written.{written}
+use Rattle.lent.proofs.Written.{written_append}
+use Rattle.ring.specs.Ring.{round_from}
+use Rattle.ring.proofs.Laws.{round_length}
+use Rattle.sender.proofs.filling.write_record.Goals as goal
+
+pub returns : goal.returns
+returns c =
+    let given = c.args in
+    let mark = c.value_of.result + c.value_of-2.result + given.n in
+    let piece = take given.n (drop given.from (round_from given.start given.queue.now)) in
+    let long : length piece ≡ given.n = simp (length-take, length-drop, round_length) (omega arith) in
+    c.copy_out.ensures
+    ∙ ap (λ (l : List ℕ). written l (given.at + 2) piece)
+    (c.write_at.ensures ∙ ap (written given.area.now given.at) c.bytes_of-mark_bytes.ensures)
+    ∙ written_append given.area.now given.at (marked mark []) piece (omega (arith, long))
+    ∙ rw (c.value_of.ensures.value, c.value_of-2.ensures.value, long)

@@ -1,0 +1,38 @@
+-- A refusal, or the packets counted and the used bytes without their marks (`used_counted`).
+use mathlib.Core.Path.{◌≡◌, sym, ap₂, ◌∙◌}
+use Prim.Native.Nat.{ℕ, ◌-◌, ◌*◌}
+use native.Mathlib.Omega.{arith}
+use Rattle.marks.specs.Queue.{waiting_in, byte_count}
+use Rattle.marks.proofs.Counting.{used_counted}
+use Rattle.sender.specs.declared.WaitingAnswer.TheVariants.{Waiting}
+use Rattle.sender.proofs.Counts.{other_length, not_whole, whole_counted}
+use Rattle.sender.proofs.waiting.Goals as goal
+
+pub returns-then-queue-ne-QUEUE_SIZE : goal.returns-then-queue-ne-QUEUE_SIZE
+returns-then-queue-ne-QUEUE_SIZE c =
+    let given = c.args in
+    other_length given.queue.now given.sender c.if-queue-ne-QUEUE_SIZE.true
+
+pub returns-then-not-is_ring_whole : goal.returns-then-not-is_ring_whole
+returns-then-not-is_ring_whole c =
+    let given = c.args in
+    not_whole given.queue.now given.sender c.if-queue-ne-QUEUE_SIZE.false (sym c.is_ring_whole.ensures ∙ c.if-not-is_ring_whole.true)
+
+pub packets_waiting-packets-requires : goal.packets_waiting-packets-requires
+packets_waiting-packets-requires c = (c.if-queue-ne-QUEUE_SIZE.false, sym c.is_ring_whole.ensures ∙ c.if-not-is_ring_whole.false)
+
+pub overflow_mul-result : goal.overflow_mul-result
+overflow_mul-result c = omega (arith, used_counted c.args.queue.now c.args.sender.start c.args.sender.used c.if-queue-ne-QUEUE_SIZE.false (sym c.is_ring_whole.ensures ∙ c.if-not-is_ring_whole.false), c.packets_waiting-packets.ensures)
+
+pub overflow_sub-result : goal.overflow_sub-result
+overflow_sub-result c = omega (arith, used_counted c.args.queue.now c.args.sender.start c.args.sender.used c.if-queue-ne-QUEUE_SIZE.false (sym c.is_ring_whole.ensures ∙ c.if-not-is_ring_whole.false), c.packets_waiting-packets.ensures)
+
+pub returns : goal.returns
+returns c =
+    let given = c.args in
+    let waits = waiting_in given.queue.now given.sender.start given.sender.used in
+    let packets = c.packets_waiting-packets.ensures in
+    let bytes : given.sender.used - 2 * c.packets_waiting-packets.result ≡ byte_count waits = omega (arith, used_counted c.args.queue.now c.args.sender.start c.args.sender.used c.if-queue-ne-QUEUE_SIZE.false (sym c.is_ring_whole.ensures ∙ c.if-not-is_ring_whole.false), packets) in
+    ap₂ (λ (p b : ℕ). Waiting p b) packets bytes
+    ∙ whole_counted given.queue.now given.sender c.if-queue-ne-QUEUE_SIZE.false
+    (sym c.is_ring_whole.ensures ∙ c.if-not-is_ring_whole.false)
