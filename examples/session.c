@@ -2,7 +2,7 @@
  * damaged and repaired, and one beyond repair; the packets that come out are whole and in their turn. session.cpp is
  * the same in C++.
  *
- *     rt staticlib taqwelim
+ *     tests/archive
  *     cc -std=c99 -Iinclude examples/session.c target/staticlib/libtaqwelim.a -o target/session
  */
 #include "taqwelim.h"

@@ -1,6 +1,6 @@
 // The session of session.c in C++17: two ends that own what they lend, and packets that are vectors.
 //
-//     rt staticlib taqwelim
+//     tests/archive
 //     c++ -std=c++17 -Iinclude examples/session.cpp target/staticlib/libtaqwelim.a -o target/session_cpp
 #include "taqwelim.h"
 
