@@ -36,6 +36,7 @@ pub fn rxfn_rule(valid: bool, rxfn: u16) -> bool
 }
 
 // No field is too large for its bits or against its rule (refusal 6; 11 of apply).
+#[tactic(auto, unfolding(crate::specs::Header::fields_fit))]
 pub fn fields_fit(fields: Fields) -> bool
     ensures { result ≡ fields_fit fields }
 {
@@ -84,6 +85,7 @@ fn channel_byte(applies: u8, message: FastChannel) -> u8
 }
 
 // d0 to d13. A number too large for its field is cut off.
+#[tactic(auto, unfolding(crate::specs::Header::field_bytes_with))]
 fn field_bytes(header: Header) -> [u8; 14]
     ensures { result ≡ field_bytes header }
 {
