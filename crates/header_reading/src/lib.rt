@@ -16,6 +16,7 @@ pub enum ReadAnswer {
 }
 
 // A number above 3 is taken for 3.
+#[tactic(auto, unfolding(crate::specs::Reading::kind_of))]
 pub fn kind_of(number: u8) -> FrameKind
     ensures { result ≡ kind_of number }
 {
@@ -89,6 +90,7 @@ pub fn header_refusal(bytes: &[u8]) -> u8
     if rules { 0 } else { 11 }
 }
 
+#[tactic(auto, unfolding(crate::specs::Reading::fields_of))]
 fn fields_of(bytes: &[u8]) -> Fields
     requires { length bytes.now ≡ 16 }
     ensures { result ≡ fields_of bytes.now }
@@ -108,6 +110,7 @@ fn fields_of(bytes: &[u8]) -> Fields
 }
 
 // The header that 16 bytes hold, where they are not refused.
+#[tactic(auto, unfolding(crate::specs::Reading::header_of))]
 pub fn header_of(bytes: &[u8]) -> Header
     requires { length bytes.now ≡ 16 }
     ensures { result ≡ header_of bytes.now }
