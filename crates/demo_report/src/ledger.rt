@@ -3,7 +3,7 @@
 // Numbers of blocks are below this one.
 pub const BLOCKS: usize = 64;
 
-#[derive(Drop)]
+#[derive(Clone, Copy)]
 pub struct Ledger {
     pub marked: [bool; BLOCKS],
 }

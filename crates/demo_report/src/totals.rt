@@ -1,7 +1,9 @@
 // What the session came to, in numbers.
 use printing::more;
+use std::io;
+use std::io::Write;
 
-#[derive(Drop)]
+#[derive(Clone, Copy)]
 pub struct Totals {
     pub received: u64,
     // Those received of which bytes were repaired.
@@ -29,7 +31,7 @@ impl Totals {
         if 0 < repaired {
             next.repaired = more(self.repaired);
         }
-        next.missed = std::num::wrapping_add_u64(self.missed, missed as u64);
+        next.missed = self.missed.wrapping_add(missed as u64);
         next
     }
 
@@ -47,32 +49,39 @@ impl Totals {
 }
 
 // A number and what it counts.
-fn say(number: u64, what: &[u8]) {
-    printing::number(number);
-    printing::say(what);
+fn say<W: Write>(out: &mut W, number: u64, what: &[u8]) -> io::Result<()> {
+    printing::number(out, number)?;
+    printing::say(out, what)
 }
 
-pub fn print_frames(totals: Totals) {
-    printing::say(b"\n\nframes: ");
-    say(totals.received, b" received, ");
-    say(totals.repaired, b" of them repaired, ");
-    say(totals.refused, b" refused, ");
-    say(totals.lost, b" lost; the missed counts add up to ");
-    say(totals.missed, b"\n");
+pub fn print_frames<W: Write>(out: &mut W, totals: Totals) -> io::Result<()> {
+    printing::say(out, b"\n\nframes: ")?;
+    say(out, totals.received, b" received, ")?;
+    say(out, totals.repaired, b" of them repaired, ")?;
+    say(out, totals.refused, b" refused, ")?;
+    say(out, totals.lost, b" lost; the missed counts add up to ")?;
+    say(out, totals.missed, b"\n")
 }
 
-pub fn print_blocks(put: u16, came_out: u64, unaltered: u64, mended: u64) {
-    printing::say(b"blocks: ");
-    say(put as u64, b" put, ");
-    say(came_out, b" came out, ");
-    say(unaltered, b" of these unaltered, ");
-    say(mended, b" with a part in a repaired frame\n");
+pub fn print_blocks<W: Write>(
+    out: &mut W,
+    put: u16,
+    came_out: u64,
+    unaltered: u64,
+    mended: u64,
+) -> io::Result<()> {
+    printing::say(out, b"blocks: ")?;
+    say(out, put as u64, b" put, ")?;
+    say(out, came_out, b" came out, ")?;
+    say(out, unaltered, b" of these unaltered, ")?;
+    say(out, mended, b" with a part in a repaired frame\n")
 }
 
-pub fn print_promised(promised: u64, put: u16) {
+pub fn print_promised<W: Write>(out: &mut W, promised: u64, put: u16) -> io::Result<()> {
     printing::say(
+        out,
         b"blocks that came out exactly if every frame with a part of them was received: ",
-    );
-    say(promised, b" of ");
-    say(put as u64, b"\n");
+    )?;
+    say(out, promised, b" of ")?;
+    say(out, put as u64, b"\n")
 }
