@@ -39,8 +39,8 @@ shown_bytes (Repaired count) part scratch = cond (eqb count 0) part (cond (leb 2
 shown_bytes (Refused number) part scratch = []
 
 unfoldable pub shown_place : RepairAnswer → Bor (List ℕ) → Bor (List ℕ) → ℕ × ℕ
-shown_place (Repaired count) part scratch = cond (eqb count 0) part.ptr scratch.ptr
-shown_place (Refused number) part scratch = part.ptr
+shown_place (Repaired count) part scratch = cond (eqb count 0) part.ref_ptr scratch.ref_ptr
+shown_place (Refused number) part scratch = part.ref_ptr
 
 -- the paper's number for each case of the answer (01, last section)
 abbrev pub repair_number : RepairAnswer → ℕ

@@ -1,0 +1,58 @@
+-- A word of which division leaves nothing is near itself (`clean`), so that the payload stays (`with_own`); another is gathered, searched and written back.
+use mathlib.Core.Path.{◌≡◌, sym, ap, ◌∙◌, subst}
+use mathlib.Core.List.{List}
+use mathlib.Core.Option.{some}
+use Prim.Native.Nat.{ℕ}
+use lib.ListN.{length}
+use Rattle.basics.specs.Lists.{zeros, Bytes, is_some}
+use Rattle.basics.proofs.Lists.{bytes_each}
+use Rattle.basics.proofs.Tests.{same_true}
+use Rattle.reed_solomon.specs.Code.{remainder_of}
+use Rattle.reed_solomon.specs.Payload.{every_eighth}
+use Rattle.reed_solomon.specs.Rows.{spread}
+use Rattle.reed_solomon.proofs.Interleaved.{eighth_length, eighth_bytes}
+use Rattle.reed_solomon.proofs.Remainders.{word_remainder_length}
+use Rattle.nearest.specs.Near.{near_word, or_own, repaired_word}
+use Rattle.nearest.proofs.Nearest.{clean}
+use Rattle.repairing.specs.Words.{with_word}
+use Rattle.repairing.proofs.Words.{with_own}
+use borrow.Author.Rules.{rules}
+use Rattle.repairing.proofs.body.repair_word.Goals as goal
+
+-- what is known of a word of which division leaves nothing
+near-own : (payload : List ℕ) (k : ℕ) (remainder : List ℕ) → Bytes payload → remainder ≡ remainder_of (every_eighth 255 k payload) → remainder ≡ zeros (length remainder)
+    → near_word (every_eighth 255 k payload) ≡ some (every_eighth 255 k payload)
+near-own payload k remainder bytes is none =
+    clean (every_eighth 255 k payload) (eighth_length 255 k payload) (eighth_bytes 255 k payload bytes) (sym is ∙ none ∙ ap (λ l. zeros (length l)) is ∙ ap zeros (word_remainder_length payload k))
+
+pub returns-then-are_zeros : goal.returns-then-are_zeros
+unfolding repaired_word
+returns-then-are_zeros c =
+    let given = c in
+    let payload = given.args.payload.now in
+    let k = given.args.k in
+    let own = every_eighth 255 k payload in
+    let bytes = bytes_each payload (λ i. search rules) in
+    let near = near-own payload k given.args.remainder bytes given.requires.2 (same_true _ _ (sym c.are_zeros.ensures ∙ c.if-are_zeros.true)) in
+    (sym (ap is_some near), sym (with_own k payload given.requires.0 given.requires.1 (ap (λ o. or_own o own) near)))
+
+pub repair_word-near-requires : goal.repair_word-near-requires
+repair_word-near-requires c =
+    let given = c in
+    let payload = given.args.payload.now in
+    let bytes = bytes_each payload (λ i. search rules) in (
+      subst Bytes (sym c.gathered-own.ensures) (eighth_bytes 255 given.args.k payload bytes),
+      given.requires.2 ∙ ap remainder_of (sym c.gathered-own.ensures),
+    )
+
+pub returns : goal.returns
+unfolding with_word
+returns c =
+    let given = c in
+    let payload = given.args.payload.now in
+    let k = given.args.k in
+    let near = c.repair_word-near in
+    let own = c.gathered-own.ensures in (
+      near.ensures.0 ∙ ap (λ w. is_some (near_word w)) own,
+      c.write_word.ensures ∙ ap (λ w. spread w k payload) (near.ensures.1 ∙ ap repaired_word own),
+    )

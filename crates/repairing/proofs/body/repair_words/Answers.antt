@@ -1,0 +1,68 @@
+-- Word by word: those before k are repaired (`with_words`), and the others are as they were, so that what division left of them is still theirs (`word_kept`).
+use native.Mathlib.Omega.{arith}
+use mathlib.Core.Path.{◌≡◌, refl, sym, ap, ◌∙◌}
+use mathlib.Core.Bool.{Bool}
+use Prim.Native.Nat.{ℕ, ◌<◌}
+use lib.ListN.{length}
+use Rattle.basics.specs.Lists.{all_below, is_some}
+use Rattle.reed_solomon.specs.Code.{remainder_of}
+use Rattle.reed_solomon.specs.Payload.{every_eighth}
+use Rattle.reed_solomon.proofs.Remainders.{remainder_of_word}
+use Rattle.nearest.specs.Near.{near_word}
+use Rattle.repairing.specs.Body.{words_near}
+use Rattle.repairing.specs.Words.{with_word}
+use Rattle.repairing.proofs.Words.{with_words, words_none, words_more, words_length, word_kept, all_words, all_found, all_missed}
+use borrow.Author.Rules.{rules}
+use Rattle.repairing.proofs.body.repair_words.Goals as goal
+use Rattle.repairing.proofs.body.repair_words.Goals.{then-not-found, else-not-found}
+
+pub loop-k-init : goal.loop-k-init
+loop-k-init c =
+    let given = c in
+    (search rules, given.requires.0, given.requires.1, sym (words_none given.args.payload.now), refl)
+
+pub repair_word-found-requires : goal.repair_word-found-requires
+repair_word-found-requires c =
+    let loop = c.loop-k in
+    let payload = c.args.payload.now in
+    let low : loop.k < 8 = omega arith in (
+      low,
+      ap length loop.invariant.3 ∙ words_length loop.k payload ∙ loop.invariant.1,
+      c.remainder_in-remainder.ensures ∙ ap (every_eighth 16 loop.k) loop.invariant.2 ∙ remainder_of_word payload loop.k low
+          ∙ sym (ap (λ l. remainder_of (every_eighth 255 loop.k l)) loop.invariant.3 ∙ ap remainder_of (word_kept loop.k payload low)),
+    )
+
+pub loop-k-preserved : goal.loop-k-preserved
+loop-k-preserved c =
+    let loop = c.loop-k in
+    let payload = c.args.payload.now in
+    let repaired = c.repair_word-found in
+    let near : ℕ → Bool = λ k. is_some (near_word (every_eighth 255 k payload)) in
+    let low : loop.k < 8 = omega arith in
+    let found : repaired.result ≡ near loop.k =
+    repaired.ensures.0 ∙ ap (λ l. is_some (near_word (every_eighth 255 loop.k l))) loop.invariant.3
+    ∙ ap (λ w. is_some (near_word w)) (word_kept loop.k payload low) in (
+      search rules,
+      loop.invariant.1,
+      loop.invariant.2,
+      repaired.ensures.1 ∙ ap (with_word loop.k) loop.invariant.3 ∙ words_more loop.k payload,
+      elim c.if-not-found.branch [
+        | then-not-found w ↦ w.all-is ∙ all_missed near loop.k repaired.result w.if-not-found.true found
+        | else-not-found w ↦ w.all-is ∙ all_found near loop.k repaired.result loop.all w.if-not-found.false found loop.invariant.4
+      ],
+    )
+
+pub shape_of-payload : goal.shape_of-payload
+shape_of-payload c =
+    let loop = c.loop-k in
+    ap length loop.invariant.3 ∙ words_length loop.k c.args.payload.now
+
+pub returns : goal.returns
+unfolding words_near
+returns c =
+    let loop = c.loop-k in
+    let payload = c.args.payload.now in
+    let all : loop.k ≡ 8 = omega arith in (
+      loop.invariant.4 ∙ ap (λ n. all_below n (λ k. is_some (near_word (every_eighth 255 k payload)))) all,
+      loop.invariant.3 ∙ ap (λ n. with_words n payload) all ∙ all_words payload loop.invariant.1,
+    )
