@@ -8,7 +8,8 @@ use Rattle.plain_reed_solomon.proofs.write_word.Given as goal
 
 abbrev pub invariant-loop-j : goal.invariant-loop-j
 invariant-loop-j l =
-    (l.j ≤ 16) × (length l.parity ≡ 16) × (length l.payload ≡ length l.initial.payload) × (spread (drop l.j l.parity) (1912 + l.k + 8 * l.j) l.payload ≡ with_parity l.k l.initial.payload)
+    (l.j ≤ 16) × (length l.parity ≡ 16) × (length l.payload ≡ length l.initial.payload)
+    × (spread (drop l.j l.parity) (1912 + l.k + 8 * l.j) l.payload ≡ with_parity l.k l.initial.payload)
 
 abbrev pub decreases-loop-j : goal.decreases-loop-j
 decreases-loop-j l = 16 - l.j
