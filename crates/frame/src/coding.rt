@@ -36,6 +36,7 @@ fn with_parity(bytes: &[u8]) -> [u8; 32]
 }
 
 // The CRC-32 stands high byte first.
+#[tactic(auto, unfolding(crate::specs::Frame::area_check))]
 pub fn area_check(area: &[u8]) -> [u8; 4]
     ensures { result ≡ area_check area.now }
 {

@@ -13,6 +13,7 @@ pub use coding::{area_check, preamble};
 use header::Header;
 
 // Builds the frame of a header and an area of 1,908 bytes at the front of out.
+#[tactic(auto, unfolding(crate::specs::Frame::frame_bytes_with))]
 pub fn build(taps: u32, header: Header, area: &[u8], out: &mut [u8])
     requires { (length area.now ≡ area_size) × (frame_size ≤ length out.old) }
     ensures { out.new ≡ written out.old 0 (frame_bytes taps header area.now) }
