@@ -3,7 +3,7 @@ ghost use Rattle.std.specs.Prelude.{◌≡◌, ◌≤◌, length};
 
 use reed_solomon::interleaving;
 
-#[derive(Drop)]
+#[derive(Clone, Copy)]
 pub enum Form {
     Quick,
     Plain,

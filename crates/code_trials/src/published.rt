@@ -1,5 +1,7 @@
 // Check values that are published: the numbers to try of the scope paper, the catalogue's check values of the two CRCs,
 // the generator as CCSDS 131.0-B prints it, which names its coefficients by powers of 2; and those of the digest, which stands for bytes in records.
+use std::io;
+use std::io::Write;
 use vectors::count::Count;
 use vectors::digest;
 
@@ -9,15 +11,17 @@ const GENERATOR: [u8; 17] = [
 ];
 
 // What the catalogue tries a CRC on.
-fn catalogue_checks(count: Count) -> Count {
+fn catalogue_checks<W: Write>(out: &mut W, count: Count) -> io::Result<Count> {
     count
         .with_number(
+            out,
             b"CRC-16 of \"123456789\"",
             crc::crc_16(b"123456789") as u64,
             0x31c3,
             4,
-        )
+        )?
         .with_number(
+            out,
             b"CRC-32 of \"123456789\"",
             crc::crc_32(b"123456789") as u64,
             0x89a1897f,
@@ -25,27 +29,35 @@ fn catalogue_checks(count: Count) -> Count {
         )
 }
 
-fn one_byte(count: Count) -> Count {
+fn one_byte<W: Write>(out: &mut W, count: Count) -> io::Result<Count> {
     count
-        .with_number(b"CRC-16 of 01", crc::crc_16(&[1]) as u64, 0x1021, 4)
-        .with_number(b"CRC-32 of 01", crc::crc_32(&[1]) as u64, 0x04c11db7, 8)
+        .with_number(out, b"CRC-16 of 01", crc::crc_16(&[1]) as u64, 0x1021, 4)?
+        .with_number(
+            out,
+            b"CRC-32 of 01",
+            crc::crc_32(&[1]) as u64,
+            0x04c11db7,
+            8,
+        )
 }
 
-fn no_byte(count: Count) -> Count {
+fn no_byte<W: Write>(out: &mut W, count: Count) -> io::Result<Count> {
     count
-        .with_number(b"CRC-16 of nothing", crc::crc_16(&[]) as u64, 0, 4)
-        .with_number(b"CRC-32 of nothing", crc::crc_32(&[]) as u64, 0, 8)
+        .with_number(out, b"CRC-16 of nothing", crc::crc_16(&[]) as u64, 0, 4)?
+        .with_number(out, b"CRC-32 of nothing", crc::crc_32(&[]) as u64, 0, 8)
 }
 
-fn check_sums(count: Count) -> Count {
-    no_byte(one_byte(catalogue_checks(count)))
+fn check_sums<W: Write>(out: &mut W, count: Count) -> io::Result<Count> {
+    let catalogued = catalogue_checks(out, count)?;
+    let with_one = one_byte(out, catalogued)?;
+    no_byte(out, with_one)
 }
 
-fn powers(count: Count) -> Count {
+fn powers<W: Write>(out: &mut W, count: Count) -> io::Result<Count> {
     count
-        .with_number(b"power 8", field::power_of(8) as u64, 0x87, 2)
-        .with_number(b"power 9", field::power_of(9) as u64, 0x89, 2)
-        .with_number(b"power 254", field::power_of(254) as u64, 0xc3, 2)
+        .with_number(out, b"power 8", field::power_of(8) as u64, 0x87, 2)?
+        .with_number(out, b"power 9", field::power_of(9) as u64, 0x89, 2)?
+        .with_number(out, b"power 254", field::power_of(254) as u64, 0xc3, 2)
 }
 
 // The generator by the exponents of CCSDS 131.0-B.
@@ -64,24 +76,26 @@ fn generator_of_powers() -> [u8; 17] {
     ]
 }
 
-fn generators(count: Count) -> Count {
+fn generators<W: Write>(out: &mut W, count: Count) -> io::Result<Count> {
     let found = reed_solomon::register::generator();
     let published = GENERATOR;
     let powers = generator_of_powers();
     count
-        .with_bytes(b"generator, 17 coefficients:", &found, &published)
-        .with_bytes(b"generator, by powers of 2:", &found, &powers)
+        .with_bytes(out, b"generator, 17 coefficients:", &found, &published)?
+        .with_bytes(out, b"generator, by powers of 2:", &found, &powers)
 }
 
-fn digests(count: Count) -> Count {
+fn digests<W: Write>(out: &mut W, count: Count) -> io::Result<Count> {
     count
         .with_number(
+            out,
             b"FNV-1a of nothing",
             digest::of(&[]),
             0xcbf29ce484222325,
             16,
-        )
+        )?
         .with_number(
+            out,
             b"FNV-1a of \"foobar\"",
             digest::of(b"foobar"),
             0x85944171f73967e8,
@@ -89,17 +103,27 @@ fn digests(count: Count) -> Count {
         )
 }
 
-pub fn tried() -> Count {
-    digests(generators(powers(check_sums(Count::none()))))
+pub fn tried<W: Write>(out: &mut W) -> io::Result<Count> {
+    let with_sums = check_sums(out, Count::none())?;
+    let with_powers = powers(out, with_sums)?;
+    let with_generators = generators(out, with_powers)?;
+    digests(out, with_generators)
 }
 
 // Values that are wrong, a number and bytes: both have to come out as different.
-pub fn planted() -> Count {
+pub fn planted<W: Write>(out: &mut W) -> io::Result<Count> {
     let found = reed_solomon::register::generator();
     let powers = generator_of_powers();
     Count::none()
-        .with_number(b"planted: CRC-16 of nothing", crc::crc_16(&[]) as u64, 1, 4)
+        .with_number(
+            out,
+            b"planted: CRC-16 of nothing",
+            crc::crc_16(&[]) as u64,
+            1,
+            4,
+        )?
         .with_bytes(
+            out,
             b"planted: generator without its last:",
             &found[0..16],
             &powers,
