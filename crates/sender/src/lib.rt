@@ -61,6 +61,7 @@ fn put_refusal(queue: &[u8], start: usize, used: usize, packet: &[u8]) -> u8
 }
 
 // Puts a packet behind those that wait, and touches nothing else. Refusals: 2, 3, 4, 5.
+#[tactic(auto, using(crate::proofs::Putting::put_passed))]
 pub fn put(queue: &mut [u8], sender: Sender, packet: &[u8]) -> PutAnswer
     ensures { PutOutcome queue.old sender packet.now result queue.new }
 {

@@ -1,7 +1,6 @@
 -- A refusal leaves the ring; otherwise mark and packet are written one behind the other (`put_written`).
 use mathlib.Core.Path.{refl, sym, ap, ◌∙◌}
 use mathlib.Core.List.{List}
-use native.Mathlib.Omega.{arith}
 use Prim.Native.Nat.{ℕ, ◌+◌}
 use Rattle.lent.proofs.Refusals.{refused, kept, accepted}
 use Rattle.ring.specs.Ring.{ring_written}
@@ -13,36 +12,6 @@ pub returns-then-number-ne0 : goal.returns-then-number-ne0
 returns-then-number-ne0 c =
     let number = c.put_refusal-number.ensures in
     record { answer = refused _ _ _ (λ n. Refused n) number c.if-number-ne0.true; bytes = kept _ _ _ _ number c.if-number-ne0.true }
-
-pub bytes_of-mark-requires : goal.bytes_of-mark-requires
-bytes_of-mark-requires c =
-    let p = put_passed c.args.queue.now c.args.sender.start c.args.sender.used c.args.packet.now (sym c.put_refusal-number.ensures ∙ c.if-number-ne0.false) in
-    omega arith
-
-pub write_at-requires : goal.write_at-requires
-write_at-requires c =
-    let p = put_passed c.args.queue.now c.args.sender.start c.args.sender.used c.args.packet.now (sym c.put_refusal-number.ensures ∙ c.if-number-ne0.false) in
-    (omega arith, omega arith)
-
-pub overflow_add-used : goal.overflow_add-used
-overflow_add-used c =
-    let p = put_passed c.args.queue.now c.args.sender.start c.args.sender.used c.args.packet.now (sym c.put_refusal-number.ensures ∙ c.if-number-ne0.false) in
-    omega arith
-
-pub write_at-requires-2 : goal.write_at-requires-2
-write_at-requires-2 c =
-    let p = put_passed c.args.queue.now c.args.sender.start c.args.sender.used c.args.packet.now (sym c.put_refusal-number.ensures ∙ c.if-number-ne0.false) in
-    (omega arith, omega arith)
-
-pub overflow_add-result : goal.overflow_add-result
-overflow_add-result c =
-    let p = put_passed c.args.queue.now c.args.sender.start c.args.sender.used c.args.packet.now (sym c.put_refusal-number.ensures ∙ c.if-number-ne0.false) in
-    omega arith
-
-pub overflow_add-result-2 : goal.overflow_add-result-2
-overflow_add-result-2 c =
-    let p = put_passed c.args.queue.now c.args.sender.start c.args.sender.used c.args.packet.now (sym c.put_refusal-number.ensures ∙ c.if-number-ne0.false) in
-    omega arith
 
 pub returns : goal.returns
 returns c =
