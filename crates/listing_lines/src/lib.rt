@@ -52,6 +52,7 @@ fn write_kind(out: &mut [u8], at: usize, kind: FrameKind, behind: u8) -> usize
 }
 
 // Writes the head line, and gives its length. This line and all others have room in 96 bytes.
+#[tactic(auto, unfolding(crate::specs::Lines::head_line))]
 pub fn write_head(out: &mut [u8]) -> usize
     requires { 96 ≤ length out.old }
     ensures value { (result ≡ length head_line) × (result ≤ 96) }
@@ -71,7 +72,7 @@ fn write_accepted(
 ) -> usize
     requires { 96 ≤ length out.old }
     ensures value { (result ≡ length (accepted_line place txfn kind missed packets)) × (result ≤ 96) }
-    ensures out_value { out.exit.now ≡ written out.entry.now 0 (accepted_line place txfn kind missed packets) }
+    ensures out_after { out.new ≡ written out.old 0 (accepted_line place txfn kind missed packets) }
 {
     let after_place = write_number(out, 0, place, SPACE);
     let after_txfn = write_number(out, after_place, txfn as u64, SPACE);
