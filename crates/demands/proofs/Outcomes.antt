@@ -1,5 +1,5 @@
 -- Demand 1 of a call, from what its contract determines by the number of its table.
-use mathlib.Core.Path.{◌≡◌, refl, sym, ap, ◌∙◌}
+use mathlib.Core.Path.{◌≡◌, refl, sym, ap, subst, ◌∙◌}
 use mathlib.Core.Bool.{Bool, true, false, cond, ◌||◌}
 use mathlib.Core.List.{List, [], ◌∷◌, ◌++◌}
 use Prim.Native.Nat.{ℕ}
@@ -27,7 +27,9 @@ first_among (row ∷ rows) ne = go row.applies refl (first_among rows)
     go : (test : Bool) → row.applies ≡ test → ((first_of rows ≡ 0 → ⊥) → among (first_of rows) (numbers_of rows) ≡ true)
         → among (first_of (row ∷ rows)) (numbers_of (row ∷ rows)) ≡ true
     go true t more = rw (t, eq-eqb row.number row.number refl)
-    go false t more = rw t (behind (eqb (first_of rows) row.number) (more (λ z. ne (rw t z))))
+    go false t more =
+        let e : first_of (row ∷ rows) ≡ first_of rows = rw t in
+        subst (λ (n : ℕ). among n (numbers_of (row ∷ rows)) ≡ true) (sym e) (behind (eqb (first_of rows) row.number) (more (λ z. ne (e ∙ z))))
 
 -- a row that does not apply changes no number
 pub left_out : (a b : List Row) (row : Row) → row.applies ≡ false → first_of (a ++ row ∷ b) ≡ first_of (a ++ b)
