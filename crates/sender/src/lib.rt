@@ -91,6 +91,7 @@ pub enum WaitingAnswer {
 }
 
 // How much waits in the ring. Two bytes of what is used are each packet's mark. Refusals: 2, 3.
+#[tactic(auto, using(marks::proofs::Counting::used_counted))]
 pub fn waiting(queue: &[u8], sender: Sender) -> WaitingAnswer
     ensures { WaitingOutcome queue.now sender result }
 {

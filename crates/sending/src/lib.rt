@@ -69,6 +69,7 @@ fn sender_after(sender: Sender, left: Left) -> Sender
 }
 
 // Builds the next frame at the front of out, and takes what it carries off the ring. Refusals: 1, 2, 3, 6.
+#[tactic(auto, using(crate::proofs::Sending::next_passed))]
 pub fn next_frame(
     taps: u32,
     fields: Fields,

@@ -21,18 +21,13 @@ returns-then-not-is_ring_whole c =
 pub packets_waiting-packets-requires : goal.packets_waiting-packets-requires
 packets_waiting-packets-requires c = (c.if-queue-ne-QUEUE_SIZE.false, sym c.is_ring_whole.ensures ∙ c.if-not-is_ring_whole.false)
 
-pub overflow_mul-result : goal.overflow_mul-result
-overflow_mul-result c = omega (arith, used_counted c.args.queue.now c.args.sender.start c.args.sender.used c.if-queue-ne-QUEUE_SIZE.false (sym c.is_ring_whole.ensures ∙ c.if-not-is_ring_whole.false), c.packets_waiting-packets.ensures)
-
-pub overflow_sub-result : goal.overflow_sub-result
-overflow_sub-result c = omega (arith, used_counted c.args.queue.now c.args.sender.start c.args.sender.used c.if-queue-ne-QUEUE_SIZE.false (sym c.is_ring_whole.ensures ∙ c.if-not-is_ring_whole.false), c.packets_waiting-packets.ensures)
-
 pub returns : goal.returns
 returns c =
-    let given = c.args in
-    let waits = waiting_in given.queue.now given.sender.start given.sender.used in
+    let queue = c.args.queue.now in
+    let sender = c.args.sender in
+    let long = c.if-queue-ne-QUEUE_SIZE.false in
+    let whole = sym c.is_ring_whole.ensures ∙ c.if-not-is_ring_whole.false in
     let packets = c.packets_waiting-packets.ensures in
-    let bytes : given.sender.used - 2 * c.packets_waiting-packets.result ≡ byte_count waits = omega (arith, used_counted c.args.queue.now c.args.sender.start c.args.sender.used c.if-queue-ne-QUEUE_SIZE.false (sym c.is_ring_whole.ensures ∙ c.if-not-is_ring_whole.false), packets) in
-    ap₂ (λ (p b : ℕ). Waiting p b) packets bytes
-    ∙ whole_counted given.queue.now given.sender c.if-queue-ne-QUEUE_SIZE.false
-    (sym c.is_ring_whole.ensures ∙ c.if-not-is_ring_whole.false)
+    let bytes : sender.used - 2 * c.packets_waiting-packets.result ≡ byte_count (waiting_in queue sender.start sender.used) =
+    omega (arith, used_counted queue sender.start sender.used long whole, packets) in
+    ap₂ (λ (p b : ℕ). Waiting p b) packets bytes ∙ whole_counted queue sender long whole

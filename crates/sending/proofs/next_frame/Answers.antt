@@ -1,8 +1,7 @@
 -- A refusal leaves both buffers; otherwise filling, freeing and building meet the three parts of the outcome, by the laws of Sending.antt.
-use mathlib.Core.Path.{refl, sym, ap₂, ◌∙◌}
+use mathlib.Core.Path.{sym, ap₂, ◌∙◌}
 use mathlib.Core.List.{List}
 use Prim.Native.Nat.{ℕ}
-use native.Mathlib.Omega.{arith}
 use borrow.Author.Rules.{rules}
 use Rattle.basics.proofs.Lists.{bytes_each}
 use Rattle.lent.specs.Written.{written}
@@ -20,26 +19,12 @@ returns-then-number-ne0 c =
     let taken = c.if-number-ne0.true in
     record { answer = refused _ _ _ (λ n. Refused n) number taken; bytes = kept _ _ _ _ number taken; frame = kept _ _ _ _ number taken }
 
-pub fill-filled-requires : goal.fill-filled-requires
-fill-filled-requires c =
-    let p =
-    next_passed c.args.taps c.args.fields c.args.sender.start c.args.sender.used c.args.queue.now c.args.out.now
-    (sym c.next_refusal-number.ensures ∙ c.if-number-ne0.false) in
-    (omega (arith, p.within, p.long), omega (arith, p.most, p.long), p.whole, refl)
-
 pub free_front-left-requires : goal.free_front-left-requires
 free_front-left-requires c =
     let p =
     next_passed c.args.taps c.args.fields c.args.sender.start c.args.sender.used c.args.queue.now c.args.out.now
     (sym c.next_refusal-number.ensures ∙ c.if-number-ne0.false) in
     (p.long, p.within, p.most, stop_within p c.fill-filled.ensures, c.fill-filled.ensures.most, c.fill-filled.ensures.behind)
-
-pub build-requires : goal.build-requires
-build-requires c =
-    let p =
-    next_passed c.args.taps c.args.fields c.args.sender.start c.args.sender.used c.args.queue.now c.args.out.now
-    (sym c.next_refusal-number.ensures ∙ c.if-number-ne0.false) in
-    (omega arith, p.room)
 
 pub returns : goal.returns
 returns c =
