@@ -93,6 +93,7 @@ fn are_sized(area: &[u8], hold: &[u8], list: &[u8]) -> bool
 }
 
 // 2 and 3; 0 for neither.
+#[tactic(auto, unfolding(lent::specs::Refusals::first_of))]
 fn buffers_refusal(area: &[u8], held: usize, hold: &[u8], list: &[u8]) -> u8
     ensures { result ≡ first_of (buffers_table area.now held hold.now list.now) }
 {
@@ -120,6 +121,8 @@ fn area_refusal(kind: FrameKind, area: &[u8], held: &[u8]) -> u8
 }
 
 // 11, 14 and 15; 0 for none. The area's number counts only where the header fits; both are found first, so that an edit can exchange them.
+// That TXFN fits in 16 bits is not tested, for its type has no more.
+#[tactic(auto, unfolding(lent::specs::Refusals::first_of))]
 fn opened_refusal(header: Header, area: &[u8], held: &[u8]) -> u8
     ensures { result ≡ first_of (opened_table header area.now held.now) }
 {
