@@ -1,35 +1,16 @@
 -- Place by place: the sums that are left without the places that are left stay the sums without all (`without_all_turn`), and so the divisor
 -- (`factor_turn`).
-use mathlib.Core.Path.{◌≡◌, sym, ap, ap₂, ◌∙◌, subst}
+use mathlib.Core.Path.{sym, ap, ap₂, ◌∙◌, subst}
 use Prim.Native.Nat.{◌+◌, ◌<◌}
-use native.Mathlib.Nat.{le_of_eq}
 use native.Mathlib.Omega.{arith}
-use lib.ListN.{length, take, drop}
-use lib.Seq.{take_all}
+use lib.ListN.{take, drop}
 use Rattle.field.specs.Field.{times}
 use Rattle.field.specs.Raised.{raised, inverse_of}
 use Rattle.field.proofs.Laws.{times_lt}
-use Rattle.field.proofs.Raised.{raised_lt}
 use Rattle.nearest.specs.Search.{error_at, factor, over, without_all}
 use Rattle.nearest.proofs.ErrorTurns.{factor_end, factor_turn, without_all_end, without_all_turn}
 use borrow.Author.Rules.{rules}
 use Rattle.nearest.proofs.errors.error_at.Goals as goal
-
-pub loop-i-init : goal.loop-i-init
-loop-i-init c =
-    let args = c.args in
-    let others = take args.count args.others in
-    let long : length args.sums ≡ 16 = search rules in
-    let power = c.raised_to-divisor.ensures in (
-      search rules,
-      search rules,
-      long,
-      search rules,
-      search rules,
-      subst (λ y. y < 256) (sym power) (raised_lt args.number 120),
-      ap (without_all others) (take_all 16 args.sums (le_of_eq long)),
-      ap (times (factor args.number others)) power,
-    )
 
 pub loop-i-preserved : goal.loop-i-preserved
 loop-i-preserved c =

@@ -1,6 +1,5 @@
 -- Place by place: the repair of the places that are left stays the repair of all (`fix_turn`), and the sums are those of the word as far as it is
 -- repaired (`sums_set`).
-use mathlib.Core.Path.{refl}
 use Prim.Native.Nat.{◌≤◌, ◌<◌}
 use native.Mathlib.Omega.{arith}
 use lib.ListN.{length, get_or, take}
@@ -9,11 +8,6 @@ use Rattle.nearest.proofs.ErrorTurns.{fix_end, fix_place, fix_turn, number_here,
 use Rattle.nearest.proofs.SumLaws.{sums_set}
 use borrow.Author.Rules.{rules}
 use Rattle.nearest.proofs.errors.fix_all.Goals as goal
-
-pub loop-i-init : goal.loop-i-init
-loop-i-init c =
-    let given = c.requires in
-    (search rules, given.1, search rules, search rules, given.2, given.3, search rules, refl, given.0)
 
 pub error_at-error-requires : goal.error_at-error-requires
 error_at-error-requires c =

@@ -15,9 +15,6 @@ loop-i-init c =
     let p = c.products-products in
     (search rules, p.ensures.0, total_start (take 9 p.result) (length-take-le 9 p.result (omega (arith, p.ensures.0))))
 
-pub bounds-products-i : goal.bounds-products-i
-bounds-products-i c = omega (arith, c.loop-i.invariant)
-
 pub loop-i-preserved : goal.loop-i-preserved
 loop-i-preserved c =
     let loop = c.loop-i in

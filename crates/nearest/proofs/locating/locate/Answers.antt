@@ -1,12 +1,9 @@
 -- List by list of sums: what those that are left make of the rows that are left stays what all eight make of all nine (`locate_turn`).
-use mathlib.Core.Path.{refl, ◌∙◌}
+use mathlib.Core.Path.{◌∙◌}
 use native.Mathlib.Omega.{arith}
 use Rattle.nearest.proofs.LocatingTurns.{locate_end, locate_turn}
 use borrow.Author.Rules.{rules}
 use Rattle.nearest.proofs.locating.locate.Goals as goal
-
-pub loop-from-init : goal.loop-from-init
-loop-from-init c = (search rules, refl)
 
 pub loop-from-preserved : goal.loop-from-preserved
 loop-from-preserved c =

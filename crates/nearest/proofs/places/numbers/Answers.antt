@@ -20,6 +20,3 @@ loop-n-preserved c =
       c.product-number.ensures ∙ number_turn loop.n loop.number loop.invariant.2,
       stored_more (λ k. locator k) loop.numbers loop.n _ loop.invariant.3 (omega (arith, loop.invariant)) loop.invariant.2,
     )
-
-pub returns : goal.returns
-returns c = (c.loop-n.invariant.1, λ i h. c.loop-n.invariant.3 i (omega arith))

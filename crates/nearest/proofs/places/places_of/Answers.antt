@@ -29,17 +29,6 @@ loop-n-init c =
       all.ensures.1,
     )
 
-pub bounds-values-n : goal.bounds-values-n
-bounds-values-n c = omega (arith, c.loop-n.invariant.0, c.loop-n.invariant.5)
-
-pub offset_bounds-at-count : goal.offset_bounds-at-count
-offset_bounds-at-count c =
-    let loop = c.loop-n in
-    let values = c.values_at-values.result in
-    let inv = loop.invariant in
-    let room = places_room loop.at values loop.count loop.n inv.2 inv.1 inv.6 inv.7 c.if-values-n-eq0.true (omega arith) in
-    omega (arith, room)
-
 pub bounds-at-count : goal.bounds-at-count
 bounds-at-count c =
     let loop = c.loop-n in
@@ -48,11 +37,6 @@ bounds-at-count c =
     let room = places_room loop.at values loop.count loop.n inv.2 inv.1 inv.6 inv.7 c.if-values-n-eq0.true (omega arith) in
     omega (arith, room, loop.invariant.2)
 
-pub bounds-all-n : goal.bounds-all-n
-bounds-all-n c =
-    let loop = c.loop-n in
-    omega (arith, loop.invariant.0, loop.invariant.4)
-
 pub bounds-found-count : goal.bounds-found-count
 bounds-found-count c =
     let loop = c.loop-n in
@@ -60,14 +44,6 @@ bounds-found-count c =
     let inv = loop.invariant in
     let room = places_room loop.at values loop.count loop.n inv.2 inv.1 inv.6 inv.7 c.if-values-n-eq0.true (omega arith) in
     omega (arith, room, loop.invariant.3)
-
-pub overflow_add-count : goal.overflow_add-count
-overflow_add-count c =
-    let loop = c.loop-n in
-    let values = c.values_at-values.result in
-    let inv = loop.invariant in
-    let room = places_room loop.at values loop.count loop.n inv.2 inv.1 inv.6 inv.7 c.if-values-n-eq0.true (omega arith) in
-    omega (arith, room)
 
 pub loop-n-preserved-then-values-n-eq0 : goal.loop-n-preserved-then-values-n-eq0
 loop-n-preserved-then-values-n-eq0 c =

@@ -1,8 +1,7 @@
 -- Coefficient by coefficient, from the highest: the values are those of the coefficients that are done (`value_at_down`).
-use mathlib.Core.Path.{◌≡◌, ap, ◌∙◌}
+use mathlib.Core.Path.{◌∙◌}
 use native.Mathlib.Omega.{arith}
-use lib.ListN.{get_or, drop, get_or-replicate}
-use Rattle.nearest.specs.Search.{value_at}
+use lib.ListN.{get_or, get_or-replicate}
 use Rattle.nearest.proofs.PlaceTurns.{value_at_down, value_at_start}
 use borrow.Author.Rules.{rules}
 use Rattle.nearest.proofs.places.values_at.Goals as goal
@@ -29,10 +28,3 @@ loop-i-preserved c =
           ∙ value_at_down (get_or args.numbers n 0) args.polynomial loop.i (get_or loop.values n 0) (omega arith) (omega (arith, loop.invariant))
           (loop.invariant.3 n h),
     )
-
-pub returns : goal.returns
-returns c =
-    let loop = c.loop-i in
-    let args = c.args in
-    let end : loop.i ≡ 0 = omega arith in
-    (loop.invariant.2, λ n h. loop.invariant.3 n h ∙ ap (λ m. value_at (get_or args.numbers n 0) (drop m args.polynomial)) end)

@@ -2,9 +2,7 @@
 use mathlib.Core.Path.{refl}
 use mathlib.Core.Bool.{false≢true}
 use native.Mathlib.Omega.{arith}
-use borrow.Author.Count.{below_more}
 use Rattle.nearest.proofs.HeaderTurns.{front_all, front_at}
-use borrow.Author.Rules.{rules}
 use Rattle.nearest.proofs.shortened.is_unsent_zero.Goals as goal
 
 pub returns-then-word-i-ne0 : goal.returns-then-word-i-ne0
@@ -12,9 +10,6 @@ returns-then-word-i-ne0 c =
     let loop = c.loop-i in
     let word = c.args.word in
     (λ e. absurd (false≢true e), λ z. absurd (c.if-word-i-ne0.true (front_at word loop.i (omega arith) z)))
-
-pub loop-i-preserved : goal.loop-i-preserved
-loop-i-preserved c = (search rules, search rules, below_more _ _ c.loop-i.invariant.2 c.if-word-i-ne0.false)
 
 pub returns : goal.returns
 returns c =

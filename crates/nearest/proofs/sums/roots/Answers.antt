@@ -19,6 +19,3 @@ loop-i-preserved c =
       c.product-root.ensures ∙ root_turn loop.i loop.root loop.invariant.2,
       stored_more (λ k. power (11 * (120 + k))) loop.roots loop.i _ loop.invariant.3 (omega (arith, loop.invariant)) loop.invariant.2,
     )
-
-pub returns : goal.returns
-returns c = (c.loop-i.invariant.1, λ i h. c.loop-i.invariant.3 i (omega arith))

@@ -2,22 +2,11 @@
 use mathlib.Core.Path.{sym, ap, ◌∙◌}
 use Prim.Native.Nat.{◌+◌}
 use native.Mathlib.Omega.{arith}
-use lib.ListN.{get_or, drop, get_or-replicate}
+use lib.ListN.{get_or, drop}
 use Rattle.reed_solomon.specs.Roots.{value}
 use Rattle.nearest.proofs.SumTurns.{value_end, value_turn}
 use borrow.Author.Rules.{rules}
 use Rattle.nearest.proofs.sums.sums_at.Goals as goal
-
-pub loop-i-init : goal.loop-i-init
-loop-i-init c =
-    let numbers = c.roots-numbers in
-    let args = c.args in (
-      search rules,
-      search rules,
-      numbers.ensures.0,
-      search rules,
-      λ k h. ap (λ y. value (get_or numbers.result k 0) y args.remainder) (get_or-replicate 16 k 0 0 h),
-    )
 
 pub loop-i-preserved : goal.loop-i-preserved
 loop-i-preserved c =

@@ -11,11 +11,6 @@ use Rattle.nearest.proofs.SumTurns.{power_turn}
 use borrow.Author.Rules.{rules}
 use Rattle.nearest.proofs.sums.sums_with.Goals as goal
 
-pub loop-i-init : goal.loop-i-init
-loop-i-init c =
-    let first = c.product-term.ensures ∙ ap (times c.args.error) c.raised_to.ensures in
-    (search rules, search rules, search rules, search rules, search rules, first, search rules)
-
 pub loop-i-preserved : goal.loop-i-preserved
 loop-i-preserved c =
     let loop = c.loop-i in
@@ -32,6 +27,3 @@ loop-i-preserved c =
       stored_more (λ k. bit_xor (get_or args.sums k 0) (term (120 + k))) loop.out loop.i _ loop.invariant.6 (omega (arith, loop.invariant))
           (ap (bit_xor (get_or args.sums loop.i 0)) loop.invariant.5),
     )
-
-pub returns : goal.returns
-returns c = (c.loop-i.invariant.1, λ i h. c.loop-i.invariant.6 i (omega arith))

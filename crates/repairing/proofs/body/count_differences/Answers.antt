@@ -1,6 +1,5 @@
 -- Place by place: those counted so far, and those that differ behind them, are all (`counted_same`, `counted_more`).
 use native.Mathlib.Omega.{arith}
-use native.Mathlib.Nat.{zero-add}
 use mathlib.Core.Path.{ap, ◌∙◌}
 use Prim.Native.Nat.{◌+◌, ◌<◌}
 use lib.ListN.{length, drop}
@@ -9,9 +8,6 @@ use Rattle.repairing.proofs.Differences.{counted_same, counted_more, counted_all
 use borrow.Author.Rules.{rules}
 use Rattle.repairing.proofs.body.count_differences.Goals as goal
 use Rattle.repairing.proofs.body.count_differences.Goals.{then-a-i, else-a-i}
-
-pub loop-i-init : goal.loop-i-init
-loop-i-init c = (search rules, search rules, c.requires.0, c.requires.1, zero-add _)
 
 pub loop-i-preserved : goal.loop-i-preserved
 loop-i-preserved c =

@@ -8,9 +8,6 @@ use Rattle.reed_solomon.proofs.Interleaved.{eighth_at, eighth_length}
 use borrow.Author.Rules.{rules}
 use Rattle.repairing.proofs.body.remainder_in.Goals as goal
 
-pub loop-j-init : goal.loop-j-init
-loop-j-init c = (search rules, search rules, λ k h. absurd (omega arith))
-
 pub loop-j-preserved : goal.loop-j-preserved
 loop-j-preserved c =
     let loop = c.loop-j in

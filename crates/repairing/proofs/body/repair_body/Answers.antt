@@ -37,12 +37,6 @@ slice_bounds-remainder_of-end-2 c =
     let given = c in
     sym (length-take-le 32 given.args.body.now (omega (arith, given.requires)))
 
-pub remainder_of-header-requires : goal.remainder_of-header-requires
-remainder_of-header-requires c =
-    let given = c in
-    let size = length-take-le 32 given.args.body.now (omega (arith, given.requires)) in
-    (omega (arith, size), omega (arith, size))
-
 pub returns-then-are_zeros-2 : goal.returns-then-are_zeros-2
 returns-then-are_zeros-2 c =
     let given = c in

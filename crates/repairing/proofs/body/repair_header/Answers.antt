@@ -11,7 +11,6 @@ use Rattle.lent.specs.Written.{written}
 use Rattle.lent.proofs.Written.{written_whole}
 use Rattle.reed_solomon.specs.Code.{remainder_of, lengthened}
 use Rattle.nearest.specs.Near.{near_header, repaired_header}
-use Rattle.repairing.proofs.Lengths.{front_length}
 use borrow.Author.Rules.{rules}
 use Rattle.repairing.proofs.body.repair_header.Goals as goal
 
@@ -35,14 +34,6 @@ repair_header-near-requires c =
     let own = c.write_at.ensures ∙ own_is body given.requires.0 in
     let bytes = bytes_each body (λ i. search rules) in
     (subst Bytes (sym own) (bytes_take 32 body bytes), given.requires.1 ∙ ap (λ l. remainder_of (lengthened l)) (sym own))
-
-pub write_at-requires-2 : goal.write_at-requires-2
-write_at-requires-2 c =
-    let given = c in
-    let body = given.args.body.now in
-    let near = c.repair_header-near in
-    let own = c.write_at.ensures ∙ own_is body given.requires.0 in
-    omega (arith, given.requires.0, ap length (near.ensures.1 ∙ ap repaired_header own), front_length body given.requires.0)
 
 pub returns : goal.returns
 returns c =

@@ -52,11 +52,6 @@ loop-k-preserved c =
       ],
     )
 
-pub shape_of-payload : goal.shape_of-payload
-shape_of-payload c =
-    let loop = c.loop-k in
-    ap length loop.invariant.3 ∙ words_length loop.k c.args.payload.now
-
 pub returns : goal.returns
 unfolding words_near
 returns c =

@@ -1,18 +1,11 @@
 -- Byte by byte: the bytes left, spread over what is written so far, give what spreading all gives (`spread_turn`); in the end none is left.
 use native.Mathlib.Omega.{arith}
-use native.Mathlib.Nat.{add-zero}
-use mathlib.Core.Path.{refl, sym, ap, ◌∙◌}
+use mathlib.Core.Path.{sym, ◌∙◌}
 use Prim.Native.Nat.{◌+◌, ◌*◌}
 use lib.ListN.{length-set}
-use Rattle.reed_solomon.specs.Rows.{spread}
 use Rattle.reed_solomon.proofs.Spread.{spread_turn, spread_end}
 use borrow.Author.Rules.{rules}
 use Rattle.repairing.proofs.body.write_word.Goals as goal
-
-pub loop-j-init : goal.loop-j-init
-loop-j-init c =
-    let args = c.args in
-    (search rules, search rules, refl, ap (λ n. spread args.word n args.payload.now) (add-zero args.k))
 
 pub loop-j-preserved : goal.loop-j-preserved
 loop-j-preserved c =
