@@ -1,7 +1,6 @@
 -- The walk of the marks: what a mark at a position says of the bytes from there on, in the tests of the code.
 use Rattle.std.proofs.Common.{◌≡◌, ℕ, ◌+◌, ◌-◌, ◌*◌, ◌<◌, ◌≤◌, Bool, true, false, cond, ◌&&◌, eqb, leb, ◌⊎◌, List, [], ◌∷◌, ◌++◌, length, sym, refl, ap, ◌∙◌, subst, ap₂, inl, inr, ⊎_elim, append-nil, arith, length-append, eq-eqb, ne_eqb, le-leb}
 use mathlib.Core.Bool.{and-false}
-use native.Mathlib.Decide.{dec_le}
 use lib.ListN.{get_or-append}
 use lib.Seq.{drop-append-add}
 use borrow.Author.Tests.{lt-leb}
@@ -10,14 +9,6 @@ use Rattle.link.proofs.Store.{mark_from, is_length_from, whole_from, whole_step,
 use Rattle.basics.specs.Lists.{is_some}
 use Rattle.link.specs.Parsing.{packets_in, is_whole}
 use Rattle.marks.specs.Walk.{behind_packet, leads_to_end, LeadsOn}
-
--- room behind a mark, as the code and as the definition counts it
-pub within : (at n long : ℕ) → at + 2 ≤ long → leb n (long - at - 2) ≡ leb (at + 2 + n) long
-within at n long h = go (dec_le (at + 2 + n) long)
-  where
-    go : Dec (at + 2 + n ≤ long) → leb n (long - at - 2) ≡ leb (at + 2 + n) long
-    go (yes y) = rw (le-leb (at + 2 + n) long y) (le-leb n (long - at - 2) (omega arith))
-    go (no y) = rw (lt-leb (at + 2 + n) long (omega arith)) (lt-leb n (long - at - 2) (omega arith))
 
 -- ---- from a place on
 
@@ -67,24 +58,9 @@ module _ (at n nowhere : ℕ) where
       go true = omega arith
       go false = l
 
-  pub with_length : 1 ≤ n → n ≤ 9000 → at + 2 + n ≡ behind_packet at n nowhere
-  with_length l h = rw (le-leb 1 n l, le-leb n 9000 h)
-
-  pub no_length : (1 ≤ n → 9000 < n) → nowhere ≡ behind_packet at n nowhere
-  no_length h = ⊎_elim none long (lt_or_ge n 1)
-    where
-      none : n < 1 → nowhere ≡ behind_packet at n nowhere
-      none l = rw (lt-leb 1 n l)
-
-      long : 1 ≤ n → nowhere ≡ behind_packet at n nowhere
-      long l = rw (le-leb 1 n l, lt-leb n 9000 (h l))
-
 -- ---- stretch by stretch
 
 module _ {stretch : List ℕ} {from : ℕ} where
-  pub begins : LeadsOn stretch from from
-  begins = record { alike = λ rest l. refl }
-
   -- a mark in the stretch is the same whatever stands behind it
   pub goes_on : {at n nowhere : ℕ} → LeadsOn stretch from at → at + 2 ≤ length stretch → 32768 < nowhere → n ≡ mark_from stretch at
       → LeadsOn stretch from (behind_packet at n nowhere)

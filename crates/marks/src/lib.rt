@@ -144,6 +144,7 @@ fn is_whole(queue: &[u8], start: usize, used: usize) -> bool
 }
 
 // Whether a start and a count are those of a ring, judged before any sum is made of them, and its used bytes stand for waiting packets (otherwise refusal 3).
+#[tactic(auto, unfolding(crate::specs::Queue::is_ring_whole))]
 pub fn is_ring_whole(queue: &[u8], start: usize, used: usize) -> bool
     requires { length queue.now ≡ queue_size }
     ensures { result ≡ is_ring_whole queue.now start used }

@@ -5,6 +5,7 @@ ghost use Rattle.marks.specs.Mark.{may_begin, may_end, is_mark};
 use basics::sizes;
 
 // Whether a mark may stand at a position of the area, with `room` bytes from it to the area's end.
+#[tactic(auto, unfolding(crate::specs::Mark::is_mark))]
 pub fn is_mark(at: usize, room: usize, mark: usize) -> bool
     ensures { result ≡ is_mark at room mark }
 {
@@ -25,6 +26,7 @@ pub fn is_mark(at: usize, room: usize, mark: usize) -> bool
 }
 
 // "First" is looked at before the position, since nearly all records have it.
+#[tactic(auto, unfolding(crate::specs::Mark::may_begin))]
 fn may_begin(at: usize, mark: usize) -> bool
     ensures { result ≡ may_begin at mark }
 {
@@ -34,6 +36,7 @@ fn may_begin(at: usize, mark: usize) -> bool
     at == 0
 }
 
+#[tactic(auto, unfolding(crate::specs::Mark::may_end))]
 fn may_end(room: usize, mark: usize) -> bool
     ensures { result ≡ may_end room mark }
 {

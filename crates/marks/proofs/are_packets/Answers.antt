@@ -1,5 +1,5 @@
 -- One stretch, or two and the buffer's end between them: the laws are those of Round.antt.
-use Rattle.std.proofs.Common.{arith, length-take}
+use Rattle.std.proofs.Common.{arith}
 use Rattle.link.proofs.Store.{whole_from}
 use Rattle.marks.proofs.Round.{one_stretch, past_end, two_stretches}
 use Rattle.marks.proofs.are_packets.Goals as goal
@@ -11,18 +11,12 @@ returns-then-used-near c =
     let walked = c.walk_stretch.ensures in
     one_stretch c.args.queue.now c.args.start c.args.used p.0 p.1 p.3 (omega arith) p.4 walked.0 walked.1
 
-pub slice_bounds-walk_stretch-end-3 : goal.slice_bounds-walk_stretch-end-3
-slice_bounds-walk_stretch-end-3 c = simp length-take (omega arith)
-
 pub overflow_sub-at : goal.overflow_sub-at
 overflow_sub-at c =
     let front = c.walk_stretch-2 in
     let p = c.requires in
     rw c.over_end-at.ensures
     (past_end c.args.queue.now c.args.start c.args.used p.0 p.1 p.3 front.result front.ensures.1)
-
-pub walk_stretch-requires-3 : goal.walk_stretch-requires-3
-walk_stretch-requires-3 c = simp length-take (omega arith, omega arith)
 
 pub returns : goal.returns
 unfolding whole_from

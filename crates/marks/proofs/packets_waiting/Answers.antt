@@ -30,9 +30,6 @@ overflow_add-packets c =
     c.loop-at-test.true in
     omega arith
 
-pub loop-at-smaller : goal.loop-at-smaller
-loop-at-smaller c = omega arith
-
 pub loop-at-preserved : goal.loop-at-preserved
 loop-at-preserved c =
     (count_goes_on c.args.queue.now c.args.start c.args.used c.requires.0 c.requires.1 c.loop-at.invariant
