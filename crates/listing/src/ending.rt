@@ -1,10 +1,10 @@
 // How a listing ends, and the words for it.
 ghost use Rattle.std.specs.Prelude.{◌≡◌};
-ghost use Rattle.listing.specs.Ending.{after_line, after_close};
+ghost use Rattle.listing.specs.Ending.{after_line, after_flush};
 
-use libc::STDERR_FILENO;
+use std::io;
 
-#[derive(Drop)]
+#[derive(Clone, Copy)]
 pub enum Ending {
     // Every frame has its line.
     Complete,
@@ -15,7 +15,7 @@ pub enum Ending {
 }
 
 // What comes after a frame.
-#[derive(Drop)]
+#[derive(Clone, Copy)]
 pub enum Next {
     // Another frame may follow.
     Frame,
@@ -37,16 +37,16 @@ pub fn after_line(is_printed: bool, is_whole: bool) -> Next
     }
 }
 
-// The ending once standard output is closed: some disks say only then that they are full.
-pub fn after_close(ending: Ending, answer: i32) -> Ending
-    ensures { result ≡ after_close ending answer }
+// The ending once the output is flushed: what was kept back till then may not have been written.
+pub fn after_flush(ending: Ending, is_flushed: bool) -> Ending
+    ensures { result ≡ after_flush ending is_flushed }
 {
     match ending {
         Ending::Complete => {
-            if answer < 0 {
-                Ending::NotPrinted
-            } else {
+            if is_flushed {
                 Ending::Complete
+            } else {
+                Ending::NotPrinted
             }
         }
         Ending::NotRead => Ending::NotRead,
@@ -55,20 +55,14 @@ pub fn after_close(ending: Ending, answer: i32) -> Ending
 }
 
 // Says on standard error that a listing is not complete, and why. Of a complete one it says nothing.
-pub fn tell(ending: Ending) {
+pub fn tell(rt: &impl Eprint, ending: Ending) -> io::Result<()> {
     match ending {
-        Ending::Complete => {}
-        Ending::NotRead => {
-            io::write_all(
-                STDERR_FILENO,
-                b"the capture could not be read to its end, so the listing is not complete\n",
-            );
-        }
-        Ending::NotPrinted => {
-            io::write_all(
-                STDERR_FILENO,
-                b"the listing could not be written to its end, so it is not complete\n",
-            );
-        }
+        Ending::Complete => Ok(()),
+        Ending::NotRead => eprintln!(rt;
+            "the capture could not be read to its end, so the listing is not complete"
+        ),
+        Ending::NotPrinted => eprintln!(rt;
+            "the listing could not be written to its end, so it is not complete"
+        ),
     }
 }

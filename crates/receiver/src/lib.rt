@@ -40,7 +40,7 @@ impl Receiver {
     }
 }
 
-#[derive(Drop)]
+#[derive(Clone, Copy)]
 pub enum ApplyAnswer {
     Applied {
         missed: u16,
