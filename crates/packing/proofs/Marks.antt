@@ -1,15 +1,13 @@
 -- A record's mark as a number: its bits are read back, and a mark that is read is the mark of its record. And bytes that are all zero.
-use mathlib.Core.Path.{◌≡◌, refl, ap₂, ◌∙◌}
-use mathlib.Core.Bool.{Bool, true, false, cond, ◌&&◌}
+use mathlib.Core.Path.{◌≡◌, refl, ap₂}
+use mathlib.Core.Bool.{Bool, true, false, cond}
 use mathlib.Core.List.{List, [], ◌∷◌}
-use Prim.Native.Nat.{ℕ, zero, suc, ◌+◌, ◌*◌, ◌/◌, ◌%◌, ◌≤◌, ◌<◌}
+use Prim.Native.Nat.{ℕ, zero, suc, ◌+◌, ◌*◌, ◌/◌, ◌%◌, ◌<◌}
 use native.Mathlib.Nat.{mod-lt, mod-eq_of_lt, div-div-eq-div-mul}
-use native.Mathlib.Numerals.{add-one}
 use native.Mathlib.Omega.{arith}
-use lib.ListN.{length, get_or, drop, drop_of_length-le}
-use lib.Seq.{drop-cons}
+use lib.ListN.{length}
 use lib.Dec.{lit<, eqb}
-use borrow.Author.Tests.{eqb-true, eq-eqb, ne_eqb}
+use borrow.Author.Tests.{eqb-true}
 use Rattle.basics.specs.Lists.{zeros}
 use Rattle.basics.proofs.Tests.{left_true, right_true}
 use Rattle.basics.proofs.Xor.{bit_cases}
@@ -76,20 +74,7 @@ mark_is mark h e =
     rw (bit_value (mark / 32768 % 2) 32768 (mod-lt (mark / 32768) (lit< tt)), bit_value (mark / 16384 % 2) 16384 (mod-lt (mark / 16384) (lit< tt)), top)
     (omega (arith, half, whole))
 
--- ---- zeros, from a position on
-
-zeros_step : (l : List ℕ) (i : ℕ) → i < length l → all_zero (drop i l) ≡ (eqb (get_or l i 0) 0 && all_zero (drop (i + 1) l))
-zeros_step l i h = rw (drop-cons l i 0 h, add-one i)
-
--- a byte that is 0, and one that is not
-pub zeros_on : (l : List ℕ) (i : ℕ) → i < length l → get_or l i 0 ≡ 0 → all_zero (drop i l) ≡ all_zero (drop (i + 1) l)
-zeros_on l i h e = zeros_step l i h ∙ rw (eq-eqb (get_or l i 0) 0 e)
-
-pub zeros_broken : (l : List ℕ) (i : ℕ) → i < length l → (get_or l i 0 ≡ 0 → ⊥) → all_zero (drop i l) ≡ false
-zeros_broken l i h e = zeros_step l i h ∙ rw (ne_eqb (get_or l i 0) 0 e)
-
-pub zeros_end : (l : List ℕ) (i : ℕ) → length l ≤ i → all_zero (drop i l) ≡ true
-zeros_end l i h = rw (drop_of_length-le l h)
+-- ---- zeros
 
 pub zeros_all : (n : ℕ) → all_zero (zeros n) ≡ true
 zeros_all zero = refl

@@ -79,6 +79,7 @@ pub fn record_at(area: &[u8], at: usize) -> Found
 }
 
 // Where the records end, all bytes are 0, and a record stands before.
+#[tactic(auto, unfolding(crate::specs::Records::end_at))]
 fn end_at(area: &[u8], at: usize) -> Found
     ensures { result ≡ end_at area.now at }
 {

@@ -1,4 +1,4 @@
--- Byte by byte: a zero leaves the question to the rest (`zeros_on`), another byte answers no (`zeros_broken`), the area's end yes (`zeros_end`).
+-- Byte by byte: whether all bytes from the position on are zero is whether those still ahead are.
 use mathlib.Core.Path.{◌≡◌}
 use Prim.Native.Nat.{◌-◌}
 use lib.ListN.{length, drop}

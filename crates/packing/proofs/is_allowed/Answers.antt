@@ -1,4 +1,4 @@
--- Record by record: the area can be read exactly if it can from here on (`some_record`). The measure falls, since a record lies behind its mark (`lies`).
+-- What reading says where no record stands (`read_end`, `read_against`), and where one does (`some_record`), which lies behind its mark (`lies`).
 use mathlib.Core.Path.{sym, ap, ◌∙◌}
 use native.Mathlib.Omega.{arith}
 use Rattle.basics.specs.Lists.{is_some}

@@ -1,4 +1,4 @@
--- Record by record: the area can be read exactly if it can from here on (`some_record`). The measure falls, since a record lies behind its mark (`lies`).
+-- Record by record: the area can be read exactly if it can from here on. The measure falls, since a record lies behind its mark.
 use mathlib.Core.Path.{◌≡◌}
 use Prim.Native.Nat.{◌-◌, ◌≤◌}
 use lib.ListN.{length}

@@ -18,9 +18,6 @@ returns-then-not-is_ring_whole c =
     let given = c.args in
     not_whole given.queue.now given.sender c.if-queue-ne-QUEUE_SIZE.false (sym c.is_ring_whole.ensures ∙ c.if-not-is_ring_whole.true)
 
-pub packets_waiting-packets-requires : goal.packets_waiting-packets-requires
-packets_waiting-packets-requires c = (c.if-queue-ne-QUEUE_SIZE.false, sym c.is_ring_whole.ensures ∙ c.if-not-is_ring_whole.false)
-
 pub returns : goal.returns
 returns c =
     let queue = c.args.queue.now in
