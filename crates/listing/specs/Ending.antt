@@ -1,5 +1,5 @@
 -- How a listing goes on, and how it ends.
-use Rattle.std.specs.Prelude.{Bool, true, false}
+use Rattle.std.specs.Prelude.{Bool, true, false, ℤ, pos, negsuc}
 use Rattle.listing.specs.declared.ending.Ending.{Ending}
 use Rattle.listing.specs.declared.ending.Ending.TheVariants.{Complete, NotRead, NotPrinted}
 use Rattle.listing.specs.declared.ending.Next.{Next}
@@ -11,9 +11,9 @@ after_line false is_whole = End NotPrinted
 after_line true true = Frame
 after_line true false = End Complete
 
--- once the output is flushed, by whether that went well: a listing is complete only where it did
-abbrev pub after_flush : Ending → Bool → Ending
-after_flush Complete true = Complete
-after_flush Complete false = NotPrinted
-after_flush NotRead is_flushed = NotRead
-after_flush NotPrinted is_flushed = NotPrinted
+-- once standard output is closed, by what that answers: a listing is complete only where that has not failed
+abbrev pub after_close : Ending → ℤ → Ending
+after_close Complete (pos k) = Complete
+after_close Complete (negsuc k) = NotPrinted
+after_close NotRead answer = NotRead
+after_close NotPrinted answer = NotPrinted

@@ -1,6 +1,6 @@
 // How a listing ends, and the words for it.
 ghost use Rattle.std.specs.Prelude.{◌≡◌};
-ghost use Rattle.listing.specs.Ending.{after_line, after_flush};
+ghost use Rattle.listing.specs.Ending.{after_line, after_close};
 
 use std::io;
 
@@ -37,16 +37,16 @@ pub fn after_line(is_printed: bool, is_whole: bool) -> Next
     }
 }
 
-// The ending once the output is flushed: what was kept back till then may not have been written.
-pub fn after_flush(ending: Ending, is_flushed: bool) -> Ending
-    ensures { result ≡ after_flush ending is_flushed }
+// The ending once standard output is closed: some disks say only then that they are full.
+pub fn after_close(ending: Ending, answer: i32) -> Ending
+    ensures { result ≡ after_close ending answer }
 {
     match ending {
         Ending::Complete => {
-            if is_flushed {
-                Ending::Complete
-            } else {
+            if answer < 0 {
                 Ending::NotPrinted
+            } else {
+                Ending::Complete
             }
         }
         Ending::NotRead => Ending::NotRead,

@@ -21,14 +21,16 @@ pub enum Piece {
     Bytes(usize),
 }
 
-// What a read has done, by what it answers: an error, 0, or how many bytes it read.
-fn meaning_of(answer: io::Result<usize>) -> Read
+// What a read has done, by what it answers: a number below 0, 0, or how many bytes it read.
+fn meaning_of(answer: isize) -> Read
     ensures { result ≡ meaning_of answer }
 {
-    match answer {
-        Err(_) => Read::Failed,
-        Ok(0) => Read::Ended,
-        Ok(count) => Read::Bytes(count),
+    if answer > 0 {
+        Read::Bytes(answer as usize)
+    } else if answer < 0 {
+        Read::Failed
+    } else {
+        Read::Ended
     }
 }
 
@@ -38,7 +40,10 @@ pub fn read_frame<R: io::Read>(input: &mut R, frame: &mut [u8]) -> Piece
 {
     let mut done = 0;
     while done < frame.len() {
-        let answer = input.read(&mut frame[done..]);
+        let answer = match input.read(&mut frame[done..]) {
+            Ok(count) => count as isize,
+            Err(_) => -1,
+        };
         match meaning_of(answer) {
             Read::Failed => return Piece::NotRead,
             Read::Ended => return Piece::Bytes(done),

@@ -155,6 +155,7 @@ fn main(rt: HostRuntime) -> io::Result<()> {
     let mut input = rt.stdin();
     let mut out = io::writer(&rt);
     let listed = list_capture(&mut input, &mut out);
-    let is_flushed = out.flush().is_ok();
-    ending::tell(&rt, ending::after_flush(listed, is_flushed))
+    // The library closes no stream: flushing is the last that can fail, and answers as close does, below 0 where it has.
+    let answer = if out.flush().is_ok() { 0 } else { -1 };
+    ending::tell(&rt, ending::after_close(listed, answer))
 }
