@@ -30,6 +30,7 @@ pub struct FlatHeader {
 }
 
 // Both bools are 0 or 1.
+#[tactic(auto, unfolding(crate::specs::Headers::flags_fit))]
 fn flags_fit(fields: FlatFields) -> bool
     ensures { result ≡ flags_fit fields }
 {
@@ -40,6 +41,7 @@ fn flags_fit(fields: FlatFields) -> bool
 }
 
 // The message to send, or one that is refused.
+#[tactic(auto, unfolding(crate::specs::Headers::sent_message))]
 fn sent_message(others: bool, fields: FlatFields) -> FastChannel
     ensures { result ≡ sent_message others fields }
 {
@@ -57,6 +59,7 @@ fn sent_message(others: bool, fields: FlatFields) -> FastChannel
 }
 
 // The fields, and with them whether what stands beside them fits.
+#[tactic(auto, unfolding(crate::specs::Headers::fields_where))]
 fn fields_where(others: bool, fields: FlatFields) -> Fields
     ensures { result ≡ fields_where others fields }
 {

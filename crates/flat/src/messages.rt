@@ -13,6 +13,7 @@ pub struct FlatMessage {
     pub third: u16,
 }
 
+#[tactic(auto, unfolding(crate::specs::Messages::first_most))]
 fn first_most(opcode: u8) -> u16
     ensures { result ≡ first_most opcode }
 {
@@ -28,6 +29,7 @@ fn first_most(opcode: u8) -> u16
     }
 }
 
+#[tactic(auto, unfolding(crate::specs::Messages::second_most))]
 fn second_most(opcode: u8) -> u16
     ensures { result ≡ second_most opcode }
 {
@@ -41,6 +43,7 @@ fn second_most(opcode: u8) -> u16
     }
 }
 
+#[tactic(auto, unfolding(crate::specs::Messages::third_most))]
 fn third_most(opcode: u8) -> u16
     ensures { result ≡ third_most opcode }
 {
@@ -51,6 +54,7 @@ fn third_most(opcode: u8) -> u16
 }
 
 // The opcode is one of 0 to 15, and no number is above the greatest of its place.
+#[tactic(auto, unfolding(crate::specs::Messages::numbers_fit))]
 pub fn numbers_fit(message: FlatMessage) -> bool
     ensures { result ≡ numbers_fit message }
 {
@@ -68,6 +72,7 @@ pub fn numbers_fit(message: FlatMessage) -> bool
 }
 
 // The message, where its numbers fit; a number of one byte is cut off otherwise.
+#[tactic(auto, unfolding(crate::specs::Messages::message_of))]
 pub fn message_of(message: FlatMessage) -> FastChannel
     ensures { result ≡ message_of message }
 {

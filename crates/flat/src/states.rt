@@ -43,6 +43,7 @@ pub struct FlatReceiver {
     pub expects: u8,
 }
 
+#[tactic(auto, unfolding(crate::specs::States::is_receiver))]
 fn is_receiver(receiver: FlatReceiver) -> bool
     ensures { result ≡ is_receiver receiver }
 {
@@ -65,6 +66,7 @@ fn expected_of(receiver: FlatReceiver) -> Expected
     }
 }
 
+#[tactic(auto, unfolding(crate::specs::States::held_of))]
 fn held_of(receiver: FlatReceiver) -> usize
     ensures { result ≡ held_of receiver }
 {
