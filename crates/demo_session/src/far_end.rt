@@ -13,8 +13,10 @@ use demo_scenario::beam::Fate;
 use header::Header;
 use opening::OpenAnswer;
 use receiver::{ApplyAnswer, Receiver};
+use std::io;
+use std::io::Write;
 
-#[derive(Drop)]
+#[derive(Clone, Copy)]
 pub struct FarEnd {
     pub receiver: Receiver,
     pub readers: Readers,
@@ -77,25 +79,32 @@ impl FarEnd {
     }
 
     // With a frame refused, by the one call or the other: its number is told, and the rest is the same.
-    fn with_refused(self, refusal: u8, first: u16, end: u16) -> FarEnd {
-        table::refused(refusal);
+    fn with_refused<W: Write>(
+        self,
+        out: &mut W,
+        refusal: u8,
+        first: u16,
+        end: u16,
+    ) -> io::Result<FarEnd> {
+        table::refused(out, refusal)?;
         let mut next = self;
         let totals = self.totals.with_refused();
         let broken = self.broken.with_all(first, end);
         next.totals = totals;
         next.broken = broken;
-        next
+        Ok(next)
     }
 
     // With the receiver's answer to a frame, of which some bytes were repaired or none, and whose packets stand in the list.
-    fn with_answer(
+    fn with_answer<W: Write>(
         self,
+        out: &mut W,
         answer: ApplyAnswer,
         repaired: u8,
         first: u16,
         end: u16,
         list: &[u8],
-    ) -> FarEnd {
+    ) -> io::Result<FarEnd> {
         match answer {
             ApplyAnswer::Applied {
                 missed,
@@ -103,30 +112,36 @@ impl FarEnd {
                 listed,
                 receiver,
             } => {
-                table::received(repaired, missed, packets);
+                table::received(out, repaired, missed, packets)?;
                 let before = self.readers;
-                let readers = readers::read_out(before, demo_report::front(list, listed), packets);
+                let readers = readers::read_out(
+                    out,
+                    before,
+                    demo_report::front(list, listed),
+                    packets,
+                )?;
                 let next = self.with_mended(repaired, first, end);
-                next.with_received(receiver, readers, repaired, missed)
+                Ok(next.with_received(receiver, readers, repaired, missed))
             }
-            ApplyAnswer::Refused(refusal) => self.with_refused(refusal, first, end),
+            ApplyAnswer::Refused(refusal) => self.with_refused(out, refusal, first, end),
         }
     }
 
-    pub fn print_totals(self, put: u16) {
+    pub fn print_totals<W: Write>(self, out: &mut W, put: u16) -> io::Result<()> {
         let frames = self.totals;
         let readers = self.readers;
         let broken = self.broken;
         let mended = self.mended;
-        let out = readers.out;
-        totals::print_frames(frames);
+        let came_out = readers.out;
+        totals::print_frames(out, frames)?;
         totals::print_blocks(
+            out,
             put,
             readers.recorder.blocks,
             readers.unaltered,
-            ledger::in_both(mended, out, put),
-        );
-        totals::print_promised(ledger::as_promised(broken, out, put), put);
+            ledger::in_both(mended, came_out, put),
+        )?;
+        totals::print_promised(out, ledger::as_promised(broken, came_out, put), put)
     }
 }
 
@@ -145,7 +160,8 @@ fn through_beam(count: u16, frame: &mut [u8]) -> usize
 }
 
 // What the receiver makes of a frame that was opened.
-fn apply(
+fn apply<W: Write>(
+    out: &mut W,
     before: FarEnd,
     header: Header,
     repaired: u8,
@@ -154,14 +170,15 @@ fn apply(
     area: &[u8],
     hold: &mut [u8],
     list: &mut [u8],
-) -> FarEnd {
+) -> io::Result<FarEnd> {
     let receiver = before.receiver;
     let answer = receiver::apply(header, area, receiver, hold, list);
-    before.with_answer(answer, repaired, first, end, list)
+    before.with_answer(out, answer, repaired, first, end, list)
 }
 
 // What the far end makes of the bytes that arrive.
-fn receive(
+fn receive<W: Write>(
+    out: &mut W,
     before: FarEnd,
     first: u16,
     end: u16,
@@ -169,21 +186,22 @@ fn receive(
     area: &mut [u8],
     hold: &mut [u8],
     list: &mut [u8],
-) -> FarEnd {
+) -> io::Result<FarEnd> {
     if arrived.len() == 0 {
-        table::lost();
-        return before.with_lost(first, end);
+        table::lost(out)?;
+        return Ok(before.with_lost(first, end));
     }
     match opening::open(TAPS, arrived, area) {
-        OpenAnswer::Refused(refusal) => before.with_refused(refusal, first, end),
+        OpenAnswer::Refused(refusal) => before.with_refused(out, refusal, first, end),
         OpenAnswer::Opened { header, repaired } => {
-            apply(before, header, repaired, first, end, area, hold, list)
+            apply(out, before, header, repaired, first, end, area, hold, list)
         }
     }
 }
 
 // A frame that carries parts of the blocks from `first` up to the one before `end` goes through the beam, and what is left of it is received.
-pub fn arrive(
+pub fn arrive<W: Write>(
+    out: &mut W,
     before: FarEnd,
     first: u16,
     end: u16,
@@ -192,11 +210,12 @@ pub fn arrive(
     area: &mut [u8],
     hold: &mut [u8],
     list: &mut [u8],
-) -> FarEnd
+) -> io::Result<FarEnd>
     requires { frame_size ≤ length frame.old }
 {
     let length = through_beam(count, frame);
     receive(
+        out,
         before,
         first,
         end,

@@ -8,8 +8,10 @@ use fast_channel::FastChannel;
 use header::{Fields, FrameKind};
 use sender::{PutAnswer, Sender, WaitingAnswer};
 use sending::NextAnswer;
+use std::io;
+use std::io::Write;
 
-#[derive(Drop)]
+#[derive(Clone, Copy)]
 pub struct NearEnd {
     pub sender: Sender,
     // How many blocks were put.
@@ -32,24 +34,29 @@ impl NearEnd {
     fn with_put(self, sender: Sender) -> NearEnd {
         let mut next = self;
         next.sender = sender;
-        next.put = std::num::wrapping_add_u16(self.put, 1);
+        next.put = self.put.wrapping_add(1);
         next
     }
 }
 
 // Puts the next block, which is made in bytes lent for it.
-fn put_block(before: NearEnd, queue: &mut [u8], block: &mut [u8]) -> NearEnd {
+fn put_block<W: Write>(
+    out: &mut W,
+    before: NearEnd,
+    queue: &mut [u8],
+    block: &mut [u8],
+) -> io::Result<NearEnd> {
     let number = before.put;
     let sender = before.sender;
     blocks::write(number, block);
     match sender::put(queue, sender, block) {
         PutAnswer::Taken(next) => {
-            table::put(number, block.len());
-            before.with_put(next)
+            table::put(out, number, block.len())?;
+            Ok(before.with_put(next))
         }
         PutAnswer::Refused(refusal) => {
-            table::not_put(number, refusal);
-            before
+            table::not_put(out, number, refusal)?;
+            Ok(before)
         }
     }
 }
@@ -63,19 +70,24 @@ fn is_block_due(count: u16) -> bool {
 }
 
 // Puts a block where one is due.
-fn put_due(before: NearEnd, count: u16, queue: &mut [u8]) -> NearEnd {
+fn put_due<W: Write>(
+    out: &mut W,
+    before: NearEnd,
+    count: u16,
+    queue: &mut [u8],
+) -> io::Result<NearEnd> {
     if !is_block_due(count) {
-        table::nothing_put();
-        return before;
+        table::nothing_put(out)?;
+        return Ok(before);
     }
     let mut block = [0u8; sizes::MOST_PACKET];
     let length = blocks::length_of(before.put);
-    put_block(before, queue, &mut block[0..length])
+    put_block(out, before, queue, &mut block[0..length])
 }
 
 // The number of the first of the blocks that wait, one that is begun among them.
 fn first_of(put: u16, packets: usize) -> u16 {
-    std::num::wrapping_sub_u16(put, (packets % 65536) as u16)
+    put.wrapping_sub((packets % 65536) as u16)
 }
 
 // How many bytes the blocks have from one number up to the one before another.
@@ -83,7 +95,7 @@ fn length_of_all(first: u16, end: u16) -> usize {
     let mut length: usize = 0;
     let mut number = first;
     while number < end {
-        length = std::num::wrapping_add_usize(length, blocks::length_of(number));
+        length = length.wrapping_add(blocks::length_of(number));
         number = number + 1;
     }
     length
@@ -103,7 +115,7 @@ fn end_of_sent(put: u16, queue: &[u8], sender: Sender) -> u16 {
         WaitingAnswer::Waiting { packets, bytes } => {
             let first = first_of(put, packets);
             if bytes < length_of_all(first, put) {
-                std::num::wrapping_add_u16(first, 1)
+                first.wrapping_add(1)
             } else {
                 first
             }
@@ -112,10 +124,10 @@ fn end_of_sent(put: u16, queue: &[u8], sender: Sender) -> u16 {
     }
 }
 
-fn tell_carried(kind: FrameKind, first: u16, end: u16) {
+fn tell_carried<W: Write>(out: &mut W, kind: FrameKind, first: u16, end: u16) -> io::Result<()> {
     match kind {
-        FrameKind::Data => table::carries(first, std::num::wrapping_sub_u16(end, 1)),
-        _ => table::idle(),
+        FrameKind::Data => table::carries(out, first, end.wrapping_sub(1)),
+        _ => table::idle(out),
     }
 }
 
@@ -134,31 +146,42 @@ fn next_frame(sender: Sender, queue: &mut [u8], frame: &mut [u8]) -> NextAnswer 
 }
 
 // Builds the next frame, and tells which blocks it carries a part of.
-fn send(before: NearEnd, queue: &mut [u8], frame: &mut [u8]) -> NearEnd {
+fn send<W: Write>(
+    out: &mut W,
+    before: NearEnd,
+    queue: &mut [u8],
+    frame: &mut [u8],
+) -> io::Result<NearEnd> {
     let put = before.put;
     let sender = before.sender;
     let first = first_waiting(put, queue, sender);
     match next_frame(sender, queue, frame) {
         NextAnswer::Sent { sender: next, kind } => {
             let end = end_of_sent(put, queue, next);
-            tell_carried(kind, first, end);
-            NearEnd {
+            tell_carried(out, kind, first, end)?;
+            Ok(NearEnd {
                 sender: next,
                 put,
                 first,
                 end,
-            }
+            })
         }
         NextAnswer::Refused(refusal) => {
-            table::not_sent(refusal);
-            before
+            table::not_sent(out, refusal)?;
+            Ok(before)
         }
     }
 }
 
 // The next frame: a block is put where one is due, and the frame is built. Its line begins with what is told of both.
-pub fn next(before: NearEnd, count: u16, queue: &mut [u8], frame: &mut [u8]) -> NearEnd {
-    table::frame(count, beam::shake_at(count));
-    let put = put_due(before, count, queue);
-    send(put, queue, frame)
+pub fn next<W: Write>(
+    out: &mut W,
+    before: NearEnd,
+    count: u16,
+    queue: &mut [u8],
+    frame: &mut [u8],
+) -> io::Result<NearEnd> {
+    table::frame(out, count, beam::shake_at(count))?;
+    let put = put_due(out, before, count, queue)?;
+    send(out, put, queue, frame)
 }

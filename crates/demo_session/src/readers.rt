@@ -5,8 +5,10 @@ use demo_scenario::blocks;
 use demo_views::{Recorder, Tuner};
 use list::EntryAnswer;
 use printing::more;
+use std::io;
+use std::io::Write;
 
-#[derive(Drop)]
+#[derive(Clone, Copy)]
 pub struct Readers {
     pub recorder: Recorder,
     pub tuner: Tuner,
@@ -44,11 +46,11 @@ impl Readers {
     }
 
     // What they know, told behind a column.
-    fn tell(self, column: usize) {
+    fn tell<W: Write>(self, out: &mut W, column: usize) -> io::Result<()> {
         let recorder = self.recorder;
         let tuner = self.tuner;
-        table::recorder(column, recorder.blocks, recorder.gaps);
-        table::tuner(tuner.first, std::num::wrapping_sub_u64(tuner.due, 1));
+        table::recorder(out, column, recorder.blocks, recorder.gaps)?;
+        table::tuner(out, tuner.first, tuner.due.wrapping_sub(1))
     }
 }
 
@@ -57,24 +59,29 @@ fn counted(count: u64, is_one_more: bool) -> u64 {
 }
 
 // Reads the packets of a list, from its beginning on.
-pub fn read_out(before: Readers, listed: &[u8], packets: usize) -> Readers {
+pub fn read_out<W: Write>(
+    out: &mut W,
+    before: Readers,
+    listed: &[u8],
+    packets: usize,
+) -> io::Result<Readers> {
     let mut readers = before;
     let mut position: usize = 0;
     let mut column = table::OUT;
     let mut left = packets;
     while 0 < left {
         let EntryAnswer::Packet { next, .. } = list::entry(listed, position) else {
-            return readers;
+            return Ok(readers);
         };
         let packet = list::packet(listed, position);
         let read = readers.with_packet(packet);
         readers = read;
-        column = table::out(column, blocks::number_of(packet));
+        column = table::out(out, column, blocks::number_of(packet))?;
         position = next;
         left -= 1;
     }
     if 0 < packets {
-        readers.tell(column);
+        readers.tell(out, column)?;
     }
-    readers
+    Ok(readers)
 }
