@@ -51,7 +51,7 @@ abbrev pub read_within : ℕ → List ℕ → ℕ → Option (List Piece)
 read_within zero area at = none
 read_within (suc k) area at = by_found area (read_within k area) (record_at area at)
 
--- the same, however many there are: they are no more than the bytes (`Read-step` in proofs/Records.antt)
+-- the same, however many there are: they are no more than the bytes (`read_step` in proofs/Records.antt)
 unfoldable pub read_from : List ℕ → ℕ → Option (List Piece)
 read_from area at = read_within (suc (length area)) area at
 
