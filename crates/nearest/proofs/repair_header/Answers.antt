@@ -1,5 +1,5 @@
--- Behind its zeros the header is a word; the codeword near that is the header's where it changes none of them (`header_from`), and otherwise none is
--- (`header_changed`, `header_missing`).
+-- Behind its zeros the header is a word; the codeword near that is the header's where it changes none of them (`header_found`), and otherwise none is
+-- (`header_changed`, `header_missed`).
 use mathlib.Core.Path.{◌≡◌, sym, ap, ◌∙◌, subst}
 use mathlib.Core.Bool.{false≢true}
 use mathlib.Core.Option.{some}
