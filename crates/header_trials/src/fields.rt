@@ -79,7 +79,7 @@ pub fn header(bytes: &[u8; 24]) -> Header {
 // Whether the 24 bytes are those of a header: its bytes are these again.
 pub fn are_a_header(given: &[u8; 24]) -> bool {
     let again = bytes(header(given));
-    check::same(&again, given)
+    again == *given
 }
 
 // The first 24 bytes of a body.

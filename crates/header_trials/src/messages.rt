@@ -8,7 +8,7 @@ const RESERVED: u8 = 7;
 
 const ABSENT: u8 = 8;
 
-#[derive(Drop)]
+#[derive(Clone, Copy)]
 pub struct Message {
     pub kind: u8,
     pub first: u16,
