@@ -12,7 +12,7 @@ use vectors::lent_bytes::Lent;
 use vectors::{lent_bytes, numbers};
 
 // What is called, with what it has beside bytes, state, hold and list: taps to open a frame and apply it, a header to apply an area.
-#[derive(Drop)]
+#[derive(Clone, Copy)]
 enum Call {
     OpenAndApply(u32),
     Apply(Header),
