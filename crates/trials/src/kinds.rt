@@ -2,6 +2,8 @@
 ghost use Rattle.std.specs.Prelude.{◌≤◌};
 
 use outcome::Outcome;
+use std::io;
+use std::io::Write;
 use vectors::lent_bytes::Lent;
 use vectors::tally;
 use vectors::tally::Tally;
@@ -50,36 +52,45 @@ pub fn outcome(
 }
 
 // The lines of all kinds, whose numbers are these and so much more.
-fn print_rows(tally: Tally, more: u64)
+fn print_rows<W: Write>(out: &mut W, tally: Tally, more: u64) -> io::Result<()>
     requires { more ≤ 64 }
 {
     tally.print_kinds(
+        out,
         1 + more,
         b"CRC-16\nCRC-32\npower of 2\nparity\ncodeword judged\npayload coded\npayload judged\ntaps judged\nbytes scrambled\n",
-    );
-    tally.print_kinds(10 + more, b"level\nheader coded\nheader read\n");
-    tally.print_kinds(13 + more, b"frame built\nframe opened\nframe refused\n");
+    )?;
+    tally.print_kinds(out, 10 + more, b"level\nheader coded\nheader read\n")?;
     tally.print_kinds(
+        out,
+        13 + more,
+        b"frame built\nframe opened\nframe refused\n",
+    )?;
+    tally.print_kinds(
+        out,
         16 + more,
         b"queue begun\nqueue changed\npacket put\nnext frame\nqueue in full\n",
-    );
+    )?;
     tally.print_kinds(
+        out,
         21 + more,
         b"hold and list begun\nframe opened and applied\nlist changed\nlist read\nlist in full\nhold in full\narea applied\n",
-    );
+    )?;
     tally.print_kinds(
+        out,
         28 + more,
         b"parity, plain form\ncodeword judged, plain form\npayload coded, plain form\npayload judged, plain form\nbytes scrambled, plain form\n",
-    );
+    )?;
     tally.print_kinds(
+        out,
         33 + more,
         b"waiting counted\nframe changed\npart repaired\npart shown\n",
-    );
+    )
 }
 
-pub fn print(tally: Tally) {
-    printing::say(b"compared different kind\n");
-    print_rows(tally, 0);
-    printing::say(b"planted different kind\n");
-    print_rows(tally, tally::PLANTED as u64);
+pub fn print<W: Write>(out: &mut W, tally: Tally) -> io::Result<()> {
+    printing::say(out, b"compared different kind\n")?;
+    print_rows(out, tally, 0)?;
+    printing::say(out, b"planted different kind\n")?;
+    print_rows(out, tally, tally::PLANTED as u64)
 }
