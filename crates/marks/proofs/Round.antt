@@ -2,7 +2,7 @@
 use Rattle.std.proofs.Common.{◌≡◌, ℕ, ◌+◌, ◌-◌, ◌<◌, ◌≤◌, Bool, true, false, ◌&&◌, eqb, leb, List, ◌++◌, length, take, drop, sym, ap, ◌∙◌, ap₂, ⊎_elim, arith, length-drop, length-take-le, le-ltb, lt-ltb}
 use Rattle.basics.proofs.Tests.{lt_or_ge}
 use Rattle.link.specs.Parsing.{mark_at, is_whole}
-use Rattle.link.proofs.Store.{mark_from, is_length_from, whole_from, sized}
+use Rattle.link.proofs.Store.{mark_from, is_length_from, whole_from}
 use Rattle.ring.specs.Ring.{round_from}
 use Rattle.marks.specs.Queue.{used_in}
 use Rattle.marks.specs.Walk.{over_end, leads_to_end, LeadsOn}
@@ -38,9 +38,6 @@ module _ (queue : List ℕ) (start used : ℕ) (u : used ≤ length queue) where
     module _ {test : Bool} (g : 32768 ≤ mark) (t : test ≡ length_test used 0 (mark - 32768) 8999) where
       pub begun_bad : test ≡ false → false ≡ is_whole bytes
       begun_bad f = sym (walk.begun_bad bytes mark is_mark_lem g (tested 0 (mark - 32768) 8999 t f))
-
-      pub begun_fits : test ≡ true → 2 + (mark - 32768) ≤ used
-      begun_fits f = omega (arith, long, (sized bytes 0 (mark - 32768) 8999 (tested 0 (mark - 32768) 8999 t f)).room)
 
       pub begun_good : test ≡ true → whole_from bytes (2 + (mark - 32768)) ≡ is_whole bytes
       begun_good f = sym (walk.begun_good bytes mark is_mark_lem g (tested 0 (mark - 32768) 8999 t f))

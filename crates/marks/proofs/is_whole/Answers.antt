@@ -1,7 +1,7 @@
 -- The front mark, begun or not, then the marks behind it: the laws are those of Round.antt.
-use Rattle.std.proofs.Common.{◌∙◌, arith, rules}
+use Rattle.std.proofs.Common.{◌∙◌, arith}
 use Rattle.link.proofs.Store.{whole_from}
-use Rattle.marks.proofs.Round.{few, not_begun, begun_bad, begun_fits, begun_good}
+use Rattle.marks.proofs.Round.{few, not_begun, begun_bad, begun_good}
 use Rattle.marks.proofs.is_whole.Goals as goal
 
 pub returns-then-used-lt2 : goal.returns-then-used-lt2
@@ -19,12 +19,6 @@ pub returns-then-not-is_length : goal.returns-then-not-is_length
 returns-then-not-is_length c =
     begun_bad c.args.queue.now c.args.start c.args.used (omega arith) (omega arith) c.mark_round-mark.ensures
     c.if-mark-lt-BEGUN_BIT.false c.is_length.ensures c.if-not-is_length.true
-
-pub are_packets-requires-2 : goal.are_packets-requires-2
-are_packets-requires-2 c =
-    let fits = begun_fits c.args.queue.now c.args.start c.args.used (omega arith) (omega arith) c.mark_round-mark.ensures
-    c.if-mark-lt-BEGUN_BIT.false c.is_length.ensures c.if-not-is_length.false in
-    search rules
 
 pub returns : goal.returns
 unfolding whole_from

@@ -1,6 +1,5 @@
 -- Filling stopped before a mark, or it cut a packet: the laws are those of Freeing.antt.
 use mathlib.Core.Path.{ap, ◌∙◌}
-use native.Mathlib.Omega.{arith}
 use Prim.Native.Nat.{◌+◌, ◌-◌, ◌%◌}
 use Rattle.ring.specs.Ring.{ring_written}
 use Rattle.sender.proofs.Freeing.{frees_whole, frees_cut}
@@ -10,9 +9,6 @@ pub returns-then-unsent-eq0 : goal.returns-then-unsent-eq0
 returns-then-unsent-eq0 c =
     frees_whole c.args.queue.now c.args.start c.args.used c.args.stop
     c.requires.0 c.requires.1 c.requires.2 c.requires.3 c.args.unsent c.if-unsent-eq0.true
-
-pub overflow_sub-front : goal.overflow_sub-front
-overflow_sub-front c = omega (arith, c.requires.5 c.if-unsent-eq0.false)
 
 pub returns : goal.returns
 returns c =
