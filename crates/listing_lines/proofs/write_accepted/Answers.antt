@@ -1,6 +1,5 @@
 -- Five words, each behind the one before (`next_word`), are the line (`accepted_words`); the bounds on the words' lengths leave room for all in 96 bytes.
 use Rattle.std.proofs.Common.{arith}
-use Rattle.listing_lines.specs.Lines.{decimal, kind_word}
 use Rattle.listing_lines.proofs.Parts.{first_word, next_word, accepted_words, whole_line}
 use Rattle.listing_lines.proofs.write_accepted.Goals as goal
 
@@ -12,11 +11,11 @@ returns c =
     let kind = c.write_kind-after_kind.ensures in
     let missed = c.write_number-after_missed.ensures in
     let packets = c.write_number.ensures in
-    let word1 = first_word out (decimal c.args.place) 32 _ _ place.out_after place.value.0 in
-    let word2 = next_word out (decimal c.args.txfn) 32 _ _ _ _ _ word1 (omega arith) txfn.out_after txfn.value.0 in
-    let word3 = next_word out (kind_word c.args.kind) 32 _ _ _ _ _ word2 (omega arith) kind.out_after kind.value.0 in
-    let word4 = next_word out (decimal c.args.missed) 32 _ _ _ _ _ word3 (omega arith) missed.out_after missed.value.0 in
-    let word5 = next_word out (decimal c.args.packets) 10 _ _ _ _ _ word4 (omega arith) packets.out_after packets.value.0 in
+    let word1 = first_word out _ 32 _ _ place.out_after place.value.0 in
+    let word2 = next_word out _ 32 _ _ _ _ _ word1 (omega arith) txfn.out_after txfn.value.0 in
+    let word3 = next_word out _ 32 _ _ _ _ _ word2 (omega arith) kind.out_after kind.value.0 in
+    let word4 = next_word out _ 32 _ _ _ _ _ word3 (omega arith) missed.out_after missed.value.0 in
+    let word5 = next_word out _ 10 _ _ _ _ _ word4 (omega arith) packets.out_after packets.value.0 in
     let words = accepted_words c.args.place c.args.txfn c.args.kind c.args.missed c.args.packets in
     let line = whole_line out _ _ _ _ word5 words in
     record { value = (line.0, omega arith); out_after = line.1 }
