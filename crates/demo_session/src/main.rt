@@ -9,7 +9,7 @@ use basics::sizes;
 use far_end::FarEnd;
 use near_end::NearEnd;
 use std::io;
-use std::io::{BufWriter, Write};
+use std::io::Write;
 
 // The scrambler's taps 0 and 3.
 const TAPS: u32 = 9;
@@ -62,7 +62,6 @@ fn play<W: Write>(out: &mut W) -> io::Result<()> {
 }
 
 fn main(rt: HostRuntime) -> io::Result<()> {
-    let mut out = BufWriter::new(rt.alloc(), io::writer(&rt))?;
-    play(&mut out)?;
-    out.flush()
+    let mut out = io::writer(&rt);
+    play(&mut out)
 }

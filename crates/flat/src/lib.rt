@@ -22,14 +22,14 @@ use sending::NextAnswer;
 use states::{FlatReceiver, FlatSender};
 
 #[repr(C)]
-#[derive(Drop)]
+#[derive(Clone, Copy)]
 pub struct FlatPut {
     pub sender: FlatSender,
     pub refusal: u8,
 }
 
 #[repr(C)]
-#[derive(Drop)]
+#[derive(Clone, Copy)]
 pub struct FlatWaiting {
     pub packets: usize,
     pub bytes: usize,
@@ -37,7 +37,7 @@ pub struct FlatWaiting {
 }
 
 #[repr(C)]
-#[derive(Drop)]
+#[derive(Clone, Copy)]
 pub struct FlatNext {
     pub sender: FlatSender,
     pub kind: u8,
@@ -45,7 +45,7 @@ pub struct FlatNext {
 }
 
 #[repr(C)]
-#[derive(Drop)]
+#[derive(Clone, Copy)]
 pub struct FlatOpen {
     pub header: FlatHeader,
     pub repaired: u8,
@@ -53,14 +53,14 @@ pub struct FlatOpen {
 }
 
 #[repr(C)]
-#[derive(Drop)]
+#[derive(Clone, Copy)]
 pub struct FlatRepair {
     pub repaired: u8,
     pub refusal: u8,
 }
 
 #[repr(C)]
-#[derive(Drop)]
+#[derive(Clone, Copy)]
 pub struct FlatApply {
     pub receiver: FlatReceiver,
     pub packets: usize,
@@ -70,20 +70,20 @@ pub struct FlatApply {
 }
 
 #[repr(C)]
-#[derive(Drop)]
+#[derive(Clone, Copy)]
 pub struct FlatCode {
     pub refusal: u8,
 }
 
 #[repr(C)]
-#[derive(Drop)]
+#[derive(Clone, Copy)]
 pub struct FlatRead {
     pub header: FlatHeader,
     pub refusal: u8,
 }
 
 #[repr(C)]
-#[derive(Drop)]
+#[derive(Clone, Copy)]
 pub struct FlatEntry {
     pub start: usize,
     pub length: usize,
@@ -94,7 +94,7 @@ pub struct FlatEntry {
 
 // Where a packet stands in the caller's list.
 #[repr(C)]
-#[derive(Drop)]
+#[derive(Clone, Copy)]
 pub struct FlatPacket {
     pub start: usize,
     pub length: usize,

@@ -5,10 +5,10 @@ use vectors::lent_bytes::Lent;
 use vectors::{digest, lent_bytes, numbers};
 
 // What repair answers, in two bytes: the refusal's number, 0 for none, and how many bytes were repaired.
-fn answer_bytes(answer: &RepairAnswer) -> [u8; 2] {
+fn answer_bytes(answer: RepairAnswer) -> [u8; 2] {
     match answer {
-        RepairAnswer::Repaired(count) => [0, *count],
-        RepairAnswer::Refused(number) => [*number, 0],
+        RepairAnswer::Repaired(count) => [0, count],
+        RepairAnswer::Refused(number) => [number, 0],
     }
 }
 
@@ -40,7 +40,7 @@ fn call_outcome(
 ) -> Outcome {
     let found = repairing::repair(taps, part, scratch);
     outcome::both(
-        outcome::of(&answer_bytes(&found), answer),
+        outcome::of(&answer_bytes(found), answer),
         shown_outcome(found, part, scratch, shown),
     )
 }

@@ -42,7 +42,7 @@ pub struct Header {
     pub fields: Fields,
 }
 
-#[derive(Drop)]
+#[derive(Clone, Copy)]
 pub enum CodeAnswer {
     Coded,
     Refused(u8),

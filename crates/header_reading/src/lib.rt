@@ -9,7 +9,7 @@ ghost use Rattle.header_reading.specs.Reading.{kind_of, fields_of, header_of, su
 use counts::{Rxfn, Txfn};
 use header::{Fields, FrameKind, Header, coding};
 
-#[derive(Drop)]
+#[derive(Clone, Copy)]
 pub enum ReadAnswer {
     Read(Header),
     Refused(u8),

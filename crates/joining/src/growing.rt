@@ -6,7 +6,7 @@ ghost use Rattle.link.specs.Store.{layout_packets};
 ghost use Rattle.joining.specs.Growing.{grown, Ready, Growable, StepOutcome};
 
 // What is held after a frame, how many packets it completed, and how many bytes of the list they take.
-#[derive(Drop)]
+#[derive(Clone, Copy)]
 pub struct Joined {
     pub held: usize,
     pub packets: usize,

@@ -7,7 +7,7 @@ ghost use Rattle.list.specs.Entries.{length_at, EntryOutcome, PacketOutcome};
 use basics::sizes;
 
 // The place and the length of the packet, and the position after it.
-#[derive(Drop)]
+#[derive(Clone, Copy)]
 pub enum EntryAnswer {
     Packet {
         start: usize,

@@ -155,7 +155,8 @@ fn main(rt: HostRuntime) -> io::Result<()> {
     let mut input = rt.stdin();
     let mut out = io::writer(&rt);
     let listed = list_capture(&mut input, &mut out);
-    // The library closes no stream: flushing is the last that can fail, and answers as close does, below 0 where it has.
+    // The library closes no stream: flushing is the last that is asked of one, and answers as close does, below 0 where it has failed. An error that a
+    // disk tells only at the close is not heard.
     let answer = if out.flush().is_ok() { 0 } else { -1 };
     ending::tell(&rt, ending::after_close(listed, answer))
 }

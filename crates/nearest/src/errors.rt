@@ -54,7 +54,7 @@ fn error_at(sums: [u8; 16], number: u8, others: [u8; 8], count: usize) -> u8
 }
 
 // A word and its sums.
-#[derive(Drop)]
+#[derive(Clone, Copy)]
 pub struct Fixed {
     pub word: [u8; 255],
     pub sums: [u8; 16],

@@ -14,7 +14,7 @@ ghost use Rattle.nearest.specs.Near.{near_word, near_header, repaired_word, repa
 ghost use Rattle.nearest.specs.Search.{sums_of, search_for};
 
 // Whether a codeword is near, and the payload word as repaired.
-#[derive(Drop)]
+#[derive(Clone, Copy)]
 pub struct RepairedWord {
     pub found: bool,
     pub word: [u8; 255],
@@ -60,7 +60,7 @@ fn search(own: [u8; 255], remainder: [u8; 16]) -> errors::Fixed
 }
 
 // Whether a codeword is near, and the coded header as repaired.
-#[derive(Drop)]
+#[derive(Clone, Copy)]
 pub struct RepairedHeader {
     pub found: bool,
     pub header: [u8; 32],

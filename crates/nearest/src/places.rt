@@ -49,7 +49,7 @@ fn values_at(numbers: [u8; 256], polynomial: [u8; 9]) -> [u8; 256]
 }
 
 // Places of a word, and their numbers: the first `count` of each array.
-#[derive(Drop)]
+#[derive(Clone, Copy)]
 pub struct Places {
     pub count: usize,
     pub at: [usize; 8],

@@ -12,7 +12,7 @@ ghost use Rattle.opening.specs.Opening.{area_part, OpenOutcome};
 use header::Header;
 use repairing::body;
 
-#[derive(Drop)]
+#[derive(Clone, Copy)]
 pub enum OpenAnswer {
     // With the header, how many bytes of the frame were repaired.
     Opened { header: Header, repaired: u8 },

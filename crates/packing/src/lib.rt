@@ -10,7 +10,7 @@ use basics::sizes;
 use marks::records;
 
 // A record: the marks of its piece, and where its bytes stand in the area.
-#[derive(Drop)]
+#[derive(Clone, Copy)]
 pub struct Record {
     pub first: bool,
     pub last: bool,
@@ -19,7 +19,7 @@ pub struct Record {
 }
 
 // What stands at a position of an area: a record, the records' end, or something against the rules.
-#[derive(Drop)]
+#[derive(Clone, Copy)]
 pub enum Found {
     At(Record),
     End,

@@ -11,7 +11,7 @@ ghost use Rattle.repairing.specs.Words.{with_word, BodyOutcome};
 
 use reed_solomon::interleaving;
 
-#[derive(Drop)]
+#[derive(Clone, Copy)]
 pub struct BodyAnswer {
     // Whether a codeword is near the coded header.
     pub header: bool,

@@ -9,7 +9,7 @@ ghost use Rattle.lent.specs.Written.{written};
 ghost use Rattle.scrambler.specs.Scrambler.{scrambled};
 ghost use Rattle.repairing.specs.Repairing.{repair_table, RepairOutcome, shown_bytes, shown_place};
 
-#[derive(Drop)]
+#[derive(Clone, Copy)]
 pub enum RepairAnswer {
     // How many bytes were wrong.
     Repaired(u8),

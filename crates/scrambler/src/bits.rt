@@ -15,7 +15,7 @@ fn step(taps: u32, stages: u32) -> u32
 }
 
 // Eight bits of the scrambler, and the stages after them.
-#[derive(Drop)]
+#[derive(Clone, Copy)]
 pub struct Key {
     pub byte: u8,
     pub stages: u32,

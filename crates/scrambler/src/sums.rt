@@ -34,7 +34,7 @@ pub fn sum_at(places: &[usize], numbers: &[u64], from: usize) -> u64
 }
 
 // Two sums, of numbers that are neighbours.
-#[derive(Drop)]
+#[derive(Clone, Copy)]
 pub struct TwoSums {
     pub low: u64,
     pub high: u64,

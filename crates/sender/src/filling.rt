@@ -12,7 +12,7 @@ ghost use Rattle.sender.specs.Filling.{FillOutcome, remaining, Freed};
 use basics::sizes;
 
 // Where filling stopped in the used bytes, and how many bytes of a packet that it cut are unsent; 0 where it cut none.
-#[derive(Drop)]
+#[derive(Clone, Copy)]
 pub struct Filled {
     pub stop: usize,
     pub unsent: usize,
@@ -85,7 +85,7 @@ fn value_of(set: bool, value: usize) -> usize
 }
 
 // What waits after a frame: where it begins in the ring, and how many bytes it is.
-#[derive(Drop)]
+#[derive(Clone, Copy)]
 pub struct Left {
     pub start: usize,
     pub used: usize,

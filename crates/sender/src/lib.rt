@@ -32,7 +32,7 @@ impl Sender {
     }
 }
 
-#[derive(Drop)]
+#[derive(Clone, Copy)]
 pub enum PutAnswer {
     Taken(Sender),
     Refused(u8),
@@ -85,7 +85,7 @@ pub fn put(queue: &mut [u8], sender: Sender, packet: &[u8]) -> PutAnswer
 }
 
 // The packets that wait, one that is begun among them, and how many bytes of them wait.
-#[derive(Drop)]
+#[derive(Clone, Copy)]
 pub enum WaitingAnswer {
     Waiting { packets: usize, bytes: usize },
     Refused(u8),

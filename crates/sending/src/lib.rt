@@ -11,7 +11,7 @@ use header::{Fields, FrameKind, Header};
 use sender::filling::Left;
 use sender::{Sender, filling};
 
-#[derive(Drop)]
+#[derive(Clone, Copy)]
 pub enum NextAnswer {
     Sent { sender: Sender, kind: FrameKind },
     Refused(u8),

@@ -9,7 +9,7 @@ use frame_trials::frames;
 use receiver_trials::buffers;
 use sender_trials::queues;
 use std::io;
-use std::io::{BufReader, BufWriter, Read, Write};
+use std::io::{Read, Write};
 use vectors::lent_bytes::Lent;
 use vectors::record;
 use vectors::record::Head;
@@ -100,8 +100,7 @@ fn try_all<R: Read, W: Write>(input: &mut R, out: &mut W) -> io::Result<()> {
 }
 
 fn main(rt: HostRuntime) -> io::Result<()> {
-    let mut input = BufReader::new(rt.alloc(), rt.stdin())?;
-    let mut out = BufWriter::new(rt.alloc(), io::writer(&rt))?;
-    try_all(&mut input, &mut out)?;
-    out.flush()
+    let mut input = rt.stdin();
+    let mut out = io::writer(&rt);
+    try_all(&mut input, &mut out)
 }
