@@ -1,8 +1,8 @@
 /* Taqwelim: packets through the frames of a laser link, for C and C++.
  *
  * The library is proved: every call here is one call of a proved library, and has a contract that says what it does
- * for all inputs (docs/CONTRACTS.md). It allocates nothing, keeps nothing between calls, and needs memcpy and memset
- * of the C library only. `tests/archive` writes it, for x86-64 Linux:
+ * for all inputs (docs/CONTRACTS.md). It allocates nothing, keeps nothing between calls, and needs memcpy, memmove and
+ * memset of the C library only. `tests/archive` writes it, for x86-64 Linux:
  *
  *     cc -std=c99 -Iinclude yours.c target/staticlib/libtaqwelim.a
  *
