@@ -39,8 +39,8 @@ use Rattle.list.specs.declared.EntryAnswer.TheVariants as listing
 
 -- A call with its inputs: the answers, and contents of the lent buffers after it, with which it meets its contract; what the buffers held before; the paper's
 -- number of an answer (01, last section), 0 for none; which answers refuse, and with which number; the call's table of refusals.
-pub record Demand1 {Answer Lent : Type 0} (Meets : Answer → Lent → Type 0) (before : Lent) (number_of : Answer → ℕ) (Refuses : Answer → ℕ → Type 0)
-    (table : List Row) : Type 0 where
+pub record Demand1 {Answer Lent : Type 0} (Meets : Answer → Lent → Type 0) (before : Lent) (number_of : Answer → ℕ)
+    (Refuses : Answer → ℕ → Type 0) (table : List Row) : Type 0 where
   -- there is an answer, ..
   pub answered : (answer : Answer) × ((after : Lent) × Meets answer after)
   -- .. and only one, with one content of each lent buffer;

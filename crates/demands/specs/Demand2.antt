@@ -115,7 +115,8 @@ pub record Applicable (header : Header) (area : List ℕ) (receiver : Receiver) 
 pub record Demand2 : Type 0 where
   -- the header: what is coded is read back, whatever the reserved bits; what is accepted is what would be coded of what was read, which may be sent, and of
   -- the reserved bits that came; coded as we send it, it is the same 16 bytes exactly where these were ones (02, M-100)
-  pub header_back : (reserved : ReservedBits) (header : Header) → header_fits header ≡ true → read_header (header_bytes_with reserved header) ≡ Read header
+  pub header_back : (reserved : ReservedBits) (header : Header) → header_fits header ≡ true
+      → read_header (header_bytes_with reserved header) ≡ Read header
   pub header_again : (bytes : List ℕ) → Bytes bytes → read_refusal bytes ≡ 0
       → (header_bytes_with (reserved_in bytes) (header_of bytes) ≡ bytes) × (header_fits (header_of bytes) ≡ true)
   pub header_same : (bytes : List ℕ) → Bytes bytes → read_refusal bytes ≡ 0

@@ -1,7 +1,8 @@
 // A header as 16 bytes, and what may be sent in them. Frames are built with the same two functions, fields_fit and header_bytes, and what was opened is
 // judged by the first.
 ghost use Rattle.std.specs.Prelude.{◌≡◌, ◌/◌, ◌%◌, ◌≤◌, ◌<◌};
-ghost use Rattle.header.specs.Header.{flag_bit, kind_number, all_ones, flags_byte, seconds_byte, channel_byte, rxfn_rule, fields_fit, field_bytes, header_bytes};
+ghost use Rattle.header.specs.Header.{flag_bit, kind_number, all_ones, flags_byte, seconds_byte, channel_byte, rxfn_rule};
+ghost use Rattle.header.specs.Header.{fields_fit, field_bytes, header_bytes};
 
 use crate::{Fields, FrameKind, Header};
 use fast_channel::FastChannel;

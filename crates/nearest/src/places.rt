@@ -23,7 +23,8 @@ fn numbers() -> [u8; 256]
 
 // A step of Horner's rule at 256 numbers, from the highest power down.
 fn step(numbers: [u8; 256], values: [u8; 256], coefficient: u8) -> [u8; 256]
-    ensures { (length result ≡ 256) × ((n : ℕ) → n < 256 → get_or result n 0 ≡ bit_xor coefficient (times (get_or numbers n 0) (get_or values n 0))) }
+    ensures { (length result ≡ 256)
+        × ((n : ℕ) → n < 256 → get_or result n 0 ≡ bit_xor coefficient (times (get_or numbers n 0) (get_or values n 0))) }
 {
     let mut out = [0u8; 256];
     let mut n: usize = 0;

@@ -1,5 +1,5 @@
 // What the programs that try and show the library have in common: they print, and they count. A contract says what is printed where the writer says which
-// bytes it holds; of standard output no contract can.
+// bytes it holds; of standard output no contract can. Where a write fails, some of the bytes may stand there already, and nothing says how many.
 #![tactic(auto)]
 
 ghost use Rattle.std.specs.Prelude.{◌≤◌, ◌<◌, OnOk};

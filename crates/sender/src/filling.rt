@@ -20,7 +20,8 @@ pub struct Filled {
 
 // Writes records of the waiting packets into an area of zeros: while one waits and 3 or more bytes remain, as much of it as fits.
 pub fn fill(queue: &[u8], start: usize, used: usize, area: &mut [u8]) -> Filled
-    requires { (start ≤ length queue.now) × (used ≤ length queue.now) × (is_whole (used_in queue.now start used) ≡ true) × (area.old ≡ zeros area_size) }
+    requires { (start ≤ length queue.now) × (used ≤ length queue.now) × (is_whole (used_in queue.now start used) ≡ true)
+        × (area.old ≡ zeros area_size) }
     ensures { FillOutcome (used_in queue.now start used) result area.new }
 {
     let mut at: usize = 0;
