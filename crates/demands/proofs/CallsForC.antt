@@ -2,7 +2,7 @@
 use mathlib.Core.Path.{◌≡◌, refl, sym, ap, ◌∙◌}
 use mathlib.Core.List.{List}
 use Prim.Native.Nat.{ℕ}
-use Rattle.lent.specs.Refusals.{Row}
+use Rattle.refusals.specs.Table.{Row}
 use Rattle.header.specs.declared.CodeAnswer.TheVariants as coding
 use Rattle.header_reading.specs.Reading.{read_number, read_header}
 use Rattle.header_reading.specs.declared.ReadAnswer.{ReadAnswer}

@@ -11,8 +11,8 @@ use lib.IntN.{ℤ, pos, neg_ℤ}
 use lib.ListN.{length}
 use Rattle.basics.specs.Sizes.{queue_size, most_packet}
 use Rattle.basics.specs.Numbers.{above}
-use Rattle.lent.specs.Refusals.{Row, ◌when◌, ◌unless◌, first_of}
-use Rattle.lent.proofs.Refusals.{numbers_of}
+use Rattle.refusals.specs.Table.{Row, ◌when◌, ◌unless◌, first_of}
+use Rattle.refusals.proofs.Table.{numbers_of}
 use Rattle.scrambler.specs.Scrambler.{taps_allowed}
 use Rattle.header.specs.Calls.{code_table, CodeHeaderOutcome}
 use Rattle.header.specs.declared.Fields.{Fields}

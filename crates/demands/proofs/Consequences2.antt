@@ -14,7 +14,7 @@ use Rattle.basics.specs.Lists.{zeros, Bytes, entries}
 use Rattle.basics.specs.Sizes.{queue_size}
 use Rattle.basics.specs.Numbers.{digit, number}
 use Rattle.basics.proofs.Lists.{zeros_length, zeros_bytes}
-use Rattle.lent.specs.Refusals.{first_of}
+use Rattle.refusals.specs.Table.{first_of}
 use Rattle.lent.proofs.Written.{written_whole}
 use Rattle.scrambler.specs.Scrambler.{taps_allowed, sum_below, bit, key_byte, scrambled}
 use Rattle.scrambler.proofs.Stages.{sum_ext}

@@ -6,7 +6,7 @@ use Prim.Native.Nat.{ℕ, ◌+◌}
 use native.Mathlib.Omega.{arith}
 use lib.Dec.{eqb}
 use lib.ListN.{length}
-use Rattle.lent.specs.Refusals.{first_of}
+use Rattle.refusals.specs.Table.{first_of}
 use Rattle.header_reading.specs.Reading.{read_table, read_number, read_refusal, ReadHeaderOutcome}
 use Rattle.header.specs.Calls.{code_table, code_number, code_refusal, CodeHeaderOutcome}
 use Rattle.fast_channel.specs.Level.{level_of, LevelOutcome}

@@ -9,9 +9,9 @@ use borrow.Author.Tests.{lt-ltb}
 use Rattle.basics.specs.Lists.{Bytes}
 use Rattle.basics.specs.Sizes.{area_size}
 use Rattle.basics.proofs.Tests.{both_true}
-use Rattle.lent.specs.Refusals.{first_of}
+use Rattle.refusals.specs.Table.{first_of}
 use Rattle.lent.specs.Written.{written}
-use Rattle.lent.proofs.Refusals.{accepted}
+use Rattle.refusals.proofs.Table.{accepted}
 use Rattle.lent.proofs.Written.{written_front}
 use Rattle.scrambler.specs.Scrambler.{taps_allowed}
 use Rattle.scrambler.proofs.Laws.{scrambled_length}

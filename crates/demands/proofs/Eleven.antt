@@ -7,8 +7,8 @@ use Prim.Native.Nat.{ℕ}
 use native.Mathlib.Omega.{arith}
 use lib.ListN.{length}
 use borrow.Author.Tests.{eq-eqb}
-use Rattle.lent.specs.Refusals.{Row, ◌unless◌, first_of}
-use Rattle.lent.proofs.Refusals.{numbers_of}
+use Rattle.refusals.specs.Table.{Row, ◌unless◌, first_of}
+use Rattle.refusals.proofs.Table.{numbers_of}
 use Rattle.header.specs.Header.{fields_fit, header_fits}
 use Rattle.header.specs.Calls.{code_refusal}
 use Rattle.header.specs.declared.Header.{Header}

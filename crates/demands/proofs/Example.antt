@@ -12,7 +12,7 @@ use lib.ListN.{length, replicate}
 use borrow.Author.Tests.{eq-eqb}
 use Rattle.basics.specs.Lists.{zeros, Bytes}
 use Rattle.basics.specs.Sizes.{area_size, frame_size, queue_size, hold_size, list_size}
-use Rattle.lent.specs.Refusals.{first_of, by}
+use Rattle.refusals.specs.Table.{first_of, by}
 use Rattle.scrambler.specs.Scrambler.{taps_allowed}
 use Rattle.header.specs.Header.{fields_fit}
 use Rattle.header.specs.declared.Fields.{Fields}

@@ -5,8 +5,8 @@ use mathlib.Core.List.{List, [], ◌∷◌, ◌++◌}
 use Prim.Native.Nat.{ℕ}
 use lib.Dec.{eqb}
 use borrow.Author.Tests.{eq-eqb}
-use Rattle.lent.specs.Refusals.{Row, first_of, by}
-use Rattle.lent.proofs.Refusals.{accepted, refused, kept, numbered, numbers_of, rising_from, lowest_first}
+use Rattle.refusals.specs.Table.{Row, first_of, by}
+use Rattle.refusals.proofs.Table.{accepted, refused, kept, numbered, numbers_of, rising_from, lowest_first}
 use Rattle.demands.specs.Demand1.{Demand1}
 
 -- whether a number is one of some

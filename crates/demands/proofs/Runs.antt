@@ -11,9 +11,9 @@ use lib.ListN.{length, length-append}
 use borrow.Author.Tests.{eq-eqb, ne_eqb, le-leb, lt-ltb, le-ltb}
 use Rattle.basics.specs.Lists.{Bytes, is_some}
 use Rattle.basics.specs.Sizes.{queue_size, frame_size}
-use Rattle.lent.specs.Refusals.{first_of}
+use Rattle.refusals.specs.Table.{first_of}
 use Rattle.lent.specs.Written.{written}
-use Rattle.lent.proofs.Refusals.{accepted}
+use Rattle.refusals.proofs.Table.{accepted}
 use Rattle.scrambler.specs.Scrambler.{taps_allowed}
 use Rattle.header.specs.Header.{fields_fit}
 use Rattle.header.specs.declared.Fields.{Fields}

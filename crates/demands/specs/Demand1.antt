@@ -3,7 +3,7 @@
 -- what its contract says. A state is given and returned by value. `every_call_holds` in proofs/Demand1.antt is the proof; CallsForC.antt has the calls for C.
 use Rattle.std.specs.Prelude.{◌≡◌, true, List, [], ◌∷◌, ◌++◌, ℕ, ◌≤◌, ℤ}
 use Rattle.std.specs.Borrow.{Bor}
-use Rattle.lent.specs.Refusals.{Row, first_of}
+use Rattle.refusals.specs.Table.{Row, first_of}
 use Rattle.header.specs.Calls.{code_table, code_number, CodeHeaderOutcome}
 use Rattle.header_reading.specs.Reading.{read_table, read_number, ReadHeaderOutcome}
 use Rattle.fast_channel.specs.Level.{LevelOutcome}

@@ -5,7 +5,7 @@ use Prim.Native.Nat.{ℕ}
 use native.Mathlib.Omega.{arith}
 use borrow.Author.Tests.{eqb-true}
 use lib.ListN.{length}
-use Rattle.lent.proofs.Refusals.{unless_passed}
+use Rattle.refusals.proofs.Table.{unless_passed}
 use Rattle.header.specs.Calls.{code_refusal}
 use Rattle.header.specs.declared.Header.{Header}
 

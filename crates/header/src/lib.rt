@@ -4,10 +4,12 @@
 pub mod coding;
 
 ghost use Rattle.std.specs.Prelude.{◌≡◌};
+ghost use Rattle.refusals.specs.Numbers.{judged_by};
 ghost use Rattle.header.specs.Calls.{code_refusal, CodeHeaderOutcome};
 
 use counts::{Rxfn, Txfn};
 use fast_channel::FastChannel;
+use refusals::Refusal;
 
 // FRAME_TYPE, from 0 to 3. Type 2 is MGMT in the standard, and type 3 is reserved there.
 #[derive(Clone, Copy)]
@@ -42,31 +44,23 @@ pub struct Header {
     pub fields: Fields,
 }
 
-#[derive(Clone, Copy)]
-pub enum CodeAnswer {
-    Coded,
-    Refused(u8),
-}
-
-fn code_refusal(header: Header, out: &[u8]) -> u8
-    ensures { result ≡ code_refusal header out.now }
+fn judge(header: Header, out: &[u8]) -> Result<(), Refusal>
+    ensures { result ≡ judged_by (code_refusal header out.now) }
 {
     if out.len() != 16 {
-        return 2;
+        return Err(Refusal::Size);
     }
-    let fields = header.fields;
-    if coding::fields_fit(fields) { 0 } else { 6 }
+    if !coding::fields_fit(header.fields) {
+        return Err(Refusal::SentField);
+    }
+    Ok(())
 }
 
 // Codes a header with any TXFN, of any type, into exactly 16 lent bytes. Refusals: 2, 6.
-pub fn code_header(header: Header, out: &mut [u8]) -> CodeAnswer
+pub fn code_header(header: Header, out: &mut [u8]) -> Result<(), Refusal>
     ensures { CodeHeaderOutcome header out.old result out.new }
 {
-    let number = code_refusal(header, out);
-    if number != 0 {
-        return CodeAnswer::Refused(number);
-    }
-    let coded = coding::header_bytes(header);
-    lent::write_at(out, 0, &coded);
-    CodeAnswer::Coded
+    judge(header, out)?;
+    out.copy_from_slice(&coding::header_bytes(header));
+    Ok(())
 }

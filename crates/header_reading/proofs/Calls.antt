@@ -5,8 +5,8 @@ use Prim.Native.Nat.{ℕ}
 use native.Mathlib.Omega.{arith}
 use borrow.Author.Tests.{eqb-true, eq-eqb}
 use lib.ListN.{length}
-use Rattle.lent.specs.Refusals.{first_of}
-use Rattle.lent.proofs.Refusals.{unless_passed}
+use Rattle.refusals.specs.Table.{first_of}
+use Rattle.refusals.proofs.Table.{unless_passed}
 use Rattle.header_reading.specs.Reading.{header_table, read_refusal}
 
 pub read_length : (bytes : List ℕ) → read_refusal bytes ≡ 0 → length bytes ≡ 16

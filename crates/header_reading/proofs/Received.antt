@@ -6,8 +6,8 @@ use Prim.Native.Nat.{ℕ, ◌+◌, ◌*◌, ◌/◌, ◌%◌}
 use native.Mathlib.Omega.{arith}
 use lib.ListN.{length, get_or, take, drop, take-append-drop}
 use Rattle.basics.specs.Lists.{Bytes, entries}
-use Rattle.lent.proofs.Refusals.{unless_passed}
-use Rattle.lent.specs.Refusals.{first_of}
+use Rattle.refusals.proofs.Table.{unless_passed}
+use Rattle.refusals.specs.Table.{first_of}
 use Rattle.crc.specs.Crc.{crc_16}
 use Rattle.basics.specs.Numbers.{high_first}
 use Rattle.basics.proofs.Lists.{byte, byte_at_lem, entries_front}

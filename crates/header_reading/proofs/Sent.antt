@@ -7,7 +7,7 @@ use native.Mathlib.Omega.{arith}
 use borrow.Author.Tests.{ltb-true, lt-ltb}
 use Rattle.crc.specs.Crc.{crc_16}
 use Rattle.basics.specs.Numbers.{fits_bits, high_first}
-use Rattle.lent.specs.Refusals.{first_of}
+use Rattle.refusals.specs.Table.{first_of}
 use Rattle.fast_channel.specs.FastChannel.{opcode_of, payload_of, message_fits}
 use Rattle.header.specs.Header.{ReservedBits, all_ones, flags_byte, seconds_byte, channel_byte, field_bytes_with, header_bytes, header_bytes_with}
 use Rattle.header.specs.Header.{rxfn_rule, fields_fit, header_fits}

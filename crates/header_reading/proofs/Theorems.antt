@@ -6,7 +6,7 @@ use mathlib.Core.Bool.{true}
 use mathlib.Core.List.{List}
 use Prim.Native.Nat.{ℕ}
 use Rattle.basics.specs.Lists.{Bytes}
-use Rattle.lent.proofs.Refusals.{accepted}
+use Rattle.refusals.proofs.Table.{accepted}
 use Rattle.header.specs.Header.{ReservedBits, all_ones, header_bytes, header_bytes_with, header_fits}
 use Rattle.header_reading.specs.Reading.{header_of, reserved_in, read_refusal, read_header}
 use Rattle.header.specs.declared.Header.{Header}

@@ -3,7 +3,7 @@
 use Rattle.std.specs.Prelude.{Bool, cond, ◌&&◌, List, [], ◌∷◌, ◌≡◌, ℕ, ◌/◌, ◌%◌, eqb, length, get_or, take, drop}
 use Rattle.basics.specs.Lists.{same}
 use Rattle.basics.specs.Numbers.{digit, high_first, number_at}
-use Rattle.lent.specs.Refusals.{Row, ◌unless◌, first_of, answer_by}
+use Rattle.refusals.specs.Table.{Row, ◌unless◌, first_of, answer_by}
 use Rattle.crc.specs.Crc.{crc_16}
 use Rattle.fast_channel.specs.FastChannel.{message_of, payload_rule}
 use Rattle.header.specs.Header.{ReservedBits, rxfn_rule}

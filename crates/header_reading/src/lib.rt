@@ -3,7 +3,7 @@
 
 ghost use Rattle.std.specs.Prelude.{◌≡◌, [], ◌∷◌, ◌+◌, ◌*◌, ◌≤◌, length};
 ghost use Rattle.basics.specs.Numbers.{number_at};
-ghost use Rattle.lent.specs.Refusals.{first_of};
+ghost use Rattle.refusals.specs.Table.{first_of};
 ghost use Rattle.header_reading.specs.Reading.{kind_of, fields_of, header_of, sum_holds, rules_hold, header_table, read_refusal, ReadHeaderOutcome};
 
 use counts::{Rxfn, Txfn};

@@ -5,7 +5,7 @@ use Prim.Native.Nat.{ℕ, ◌+◌, ◌-◌}
 use native.Mathlib.Omega.{arith}
 use lib.ListN.{length, take, drop}
 use borrow.Author.Tests.{eq-eqb, ne_eqb}
-use Rattle.lent.specs.Refusals.{first_of, by}
+use Rattle.refusals.specs.Table.{first_of, by}
 use Rattle.list.specs.Entries.{length_at, entry_refusal, entry_answer, packet_at, place_at, PacketOutcome}
 use Rattle.list.specs.declared.EntryAnswer.TheVariants.{Packet, End, Refused}
 

@@ -3,7 +3,7 @@
 use Rattle.std.specs.Prelude.{◌≡◌, cond, not, ◌&&◌, List, [], ◌∷◌, ℕ, zero, suc, ◌+◌, ◌*◌, eqb, leb, length, get_or, take, drop}
 use Rattle.std.proofs.Math.Option.{Option, none, some, map}
 use Rattle.basics.specs.Sizes.{most_packet}
-use Rattle.lent.specs.Refusals.{Row, ◌when◌, first_of, answer_by}
+use Rattle.refusals.specs.Table.{Row, ◌when◌, first_of, answer_by}
 use Rattle.link.specs.Link.{Packet}
 use Rattle.list.specs.declared.EntryAnswer.{EntryAnswer}
 use Rattle.list.specs.declared.EntryAnswer.TheVariants as answer

@@ -37,7 +37,7 @@ fn length_at(list: &[u8], position: usize) -> usize
 }
 
 // What stands at a position, as numbers. Refusal: 16.
-#[tactic(auto, unfolding(crate::specs::Entries::entry_answer, crate::specs::Entries::entry_refusal, lent::specs::Refusals::first_of, lent::specs::Refusals::by))]
+#[tactic(auto, unfolding(crate::specs::Entries::entry_answer, crate::specs::Entries::entry_refusal, refusals::specs::Table::first_of, refusals::specs::Table::by))]
 pub fn entry(list: &[u8], position: usize) -> EntryAnswer
     ensures { EntryOutcome list.now position result }
 {

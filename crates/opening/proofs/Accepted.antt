@@ -10,7 +10,7 @@ use lib.Seq.{length-take-le, take-take, drop-drop, take-add, take_at, drop_at}
 use Rattle.basics.specs.Lists.{Bytes}
 use Rattle.basics.proofs.Tests.{same_true}
 use Rattle.basics.proofs.Lists.{bytes_take, bytes_drop}
-use Rattle.lent.specs.Refusals.{first_of}
+use Rattle.refusals.specs.Table.{first_of}
 use Rattle.reed_solomon.specs.Code.{parity, lengthened}
 use Rattle.reed_solomon.specs.Payload.{coded_payload}
 use Rattle.reed_solomon.proofs.Laws.{parity_zeros, true_codeword, of_shorter}

@@ -11,7 +11,7 @@ use lib.Seq.{take_at, drop_at, drop-drop, take-take, take-add, length-take-le}
 use Rattle.basics.specs.Lists.{zeros, Bytes, same}
 use Rattle.basics.proofs.Lists.{bytes_append}
 use Rattle.basics.proofs.Tests.{same_self}
-use Rattle.lent.specs.Refusals.{first_of}
+use Rattle.refusals.specs.Table.{first_of}
 use Rattle.reed_solomon.specs.Code.{parity, is_codeword, lengthened}
 use Rattle.reed_solomon.specs.Payload.{are_codewords}
 use Rattle.reed_solomon.proofs.Laws.{parity_zeros, codeword_true, coded}

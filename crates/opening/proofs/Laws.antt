@@ -8,8 +8,8 @@ use lib.Dec.{eqb, leb, lit<}
 use lib.ListN.{length, take, drop, length-drop}
 use Rattle.basics.specs.Lists.{same, is_some}
 use Rattle.basics.proofs.Tests.{left_true, right_true, same_true, same_self}
-use Rattle.lent.specs.Refusals.{Row, ◌unless◌, first_of}
-use Rattle.lent.proofs.Refusals.{unless_passed, first_earlier, first_later, both_passed}
+use Rattle.refusals.specs.Table.{Row, ◌unless◌, first_of}
+use Rattle.refusals.proofs.Table.{unless_passed, first_earlier, first_later, both_passed}
 use Rattle.scrambler.specs.Scrambler.{taps_allowed}
 use Rattle.scrambler.proofs.Laws.{scrambled_length}
 use Rattle.header_reading.specs.Reading.{header_table}

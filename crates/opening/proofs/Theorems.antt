@@ -8,7 +8,7 @@ use Prim.Native.Nat.{ℕ, ◌≤◌}
 use lib.ListN.{length}
 use Rattle.basics.specs.Lists.{Bytes}
 use Rattle.lent.specs.Written.{written}
-use Rattle.lent.proofs.Refusals.{accepted, numbered}
+use Rattle.refusals.proofs.Table.{accepted, numbered}
 use Rattle.scrambler.specs.Scrambler.{taps_allowed}
 use Rattle.header.specs.Header.{ReservedBits, header_fits}
 use Rattle.header.specs.declared.Header.{Header}

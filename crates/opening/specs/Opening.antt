@@ -3,7 +3,7 @@
 use Rattle.std.specs.Prelude.{◌≡◌, Bool, ◌&&◌, List, [], ◌∷◌, ◌++◌, ℕ, ◌+◌, eqb, leb, length, take, drop}
 use Rattle.basics.specs.Lists.{same, is_some}
 use Rattle.basics.specs.Sizes.{area_size, frame_size}
-use Rattle.lent.specs.Refusals.{Row, ◌unless◌, first_of, by, answer_by}
+use Rattle.refusals.specs.Table.{Row, ◌unless◌, first_of, by, answer_by}
 use Rattle.lent.specs.Written.{written}
 use Rattle.scrambler.specs.Scrambler.{taps_allowed, scrambled}
 use Rattle.header_reading.specs.Reading.{header_of, reserved_in, header_table}

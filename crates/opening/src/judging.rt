@@ -1,7 +1,7 @@
 // What is asked of a frame that arrived, in the order of the refusals' numbers.
 ghost use Rattle.std.specs.Prelude.{◌≡◌, length, take};
 ghost use Rattle.basics.specs.Sizes.{frame_size};
-ghost use Rattle.lent.specs.Refusals.{first_of};
+ghost use Rattle.refusals.specs.Table.{first_of};
 ghost use Rattle.opening.specs.Opening.{unscrambled, repaired_table, open_table, area_checked};
 
 use basics::sizes;

@@ -5,7 +5,7 @@ mod judging;
 
 ghost use Rattle.std.specs.Prelude.{◌≡◌, ◌≤◌, length};
 ghost use Rattle.basics.specs.Sizes.{area_size};
-ghost use Rattle.lent.specs.Refusals.{by};
+ghost use Rattle.refusals.specs.Table.{by};
 ghost use Rattle.lent.specs.Written.{written};
 ghost use Rattle.opening.specs.Opening.{area_part, OpenOutcome};
 

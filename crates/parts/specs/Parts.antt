@@ -2,7 +2,7 @@
 use Rattle.std.specs.Prelude.{false, cond, ◌&&◌, List, ℕ, eqb, leb, length, take}
 use Rattle.basics.specs.Lists.{entries}
 use Rattle.basics.specs.Sizes.{area_size, frame_size}
-use Rattle.lent.specs.Refusals.{by}
+use Rattle.refusals.specs.Table.{by}
 use Rattle.lent.specs.Written.{written}
 use Rattle.reed_solomon.specs.Payload.{coded_payload}
 use Rattle.reed_solomon.specs.Rows.{remainder_byte}

@@ -10,8 +10,8 @@ use lib.Dec.{eqb}
 use lib.ListN.{length, take}
 use lib.Seq.{length-take-le}
 use borrow.Author.Tests.{ne_eqb}
-use Rattle.lent.specs.Refusals.{first_of}
-use Rattle.lent.proofs.Refusals.{accepted, first_earlier, first_later}
+use Rattle.refusals.specs.Table.{first_of}
+use Rattle.refusals.proofs.Table.{accepted, first_earlier, first_later}
 use Rattle.lent.proofs.Written.{written_own, written_nothing}
 use Rattle.link.specs.Link.{Piece, Step, held_after, on_pieces}
 use Rattle.packing.specs.Records.{read}

@@ -6,9 +6,9 @@ use mathlib.Core.List.{List, []}
 use Prim.Native.Nat.{ℕ, zero, suc, ◌≤◌}
 use native.Mathlib.Omega.{arith}
 use lib.ListN.{length, take, length-take}
-use Rattle.lent.specs.Refusals.{first_of}
+use Rattle.refusals.specs.Table.{first_of}
 use Rattle.lent.specs.Written.{written}
-use Rattle.lent.proofs.Refusals.{accepted, refused, kept, numbered, both_passed, first_later}
+use Rattle.refusals.proofs.Table.{accepted, refused, kept, numbered, both_passed, first_later}
 use Rattle.lent.proofs.Written.{written_length}
 use Rattle.link.specs.Link.{ArePackets, Piece, Step, held_after}
 use Rattle.link.specs.Store.{layout_packets}

@@ -10,8 +10,8 @@ use lib.ListN.{length}
 use borrow.Author.Tests.{eqb-true, leb-true, ltb-false, eq-eqb, le-leb, le-ltb}
 use Rattle.basics.specs.Numbers.{above}
 use Rattle.basics.proofs.Tests.{left_true, right_true}
-use Rattle.lent.specs.Refusals.{◌when◌, first_of}
-use Rattle.lent.proofs.Refusals.{row_passed, unless_passed}
+use Rattle.refusals.specs.Table.{◌when◌, first_of}
+use Rattle.refusals.proofs.Table.{row_passed, unless_passed}
 use Rattle.link.specs.Link.{Piece, fits}
 use Rattle.basics.specs.Lists.{is_some}
 use Rattle.packing.specs.Records.{read}

@@ -5,7 +5,7 @@ use Rattle.std.proofs.Math.Option.{Option, none, some}
 use Rattle.basics.specs.Sizes.{area_size, most_held, hold_size, list_size}
 use Rattle.basics.specs.Numbers.{above}
 use Rattle.basics.specs.Counts.{next_txfn}
-use Rattle.lent.specs.Refusals.{Row, ◌when◌, ◌unless◌, first_of, by, answer_by}
+use Rattle.refusals.specs.Table.{Row, ◌when◌, ◌unless◌, first_of, by, answer_by}
 use Rattle.lent.specs.Written.{written}
 use Rattle.header.specs.Header.{header_fits}
 use Rattle.header.specs.declared.FrameKind.{FrameKind}

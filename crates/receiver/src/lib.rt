@@ -2,7 +2,7 @@
 #![tactic(auto)]
 
 ghost use Rattle.std.specs.Prelude.{◌≡◌, cond, eqb};
-ghost use Rattle.lent.specs.Refusals.{first_of};
+ghost use Rattle.refusals.specs.Table.{first_of};
 ghost use Rattle.link.specs.Link.{missed};
 ghost use Rattle.receiver.specs.declared.ApplyAnswer.TheVariants.{Applied};
 ghost use Rattle.receiver.specs.Applying.{fresh_receiver, expected_number, receiver_then, is_data, pieces_of, are_sized};
@@ -93,7 +93,7 @@ fn are_sized(area: &[u8], hold: &[u8], list: &[u8]) -> bool
 }
 
 // 2 and 3; 0 for neither.
-#[tactic(auto, unfolding(lent::specs::Refusals::first_of))]
+#[tactic(auto, unfolding(refusals::specs::Table::first_of))]
 fn buffers_refusal(area: &[u8], held: usize, hold: &[u8], list: &[u8]) -> u8
     ensures { result ≡ first_of (buffers_table area.now held hold.now list.now) }
 {
@@ -122,7 +122,7 @@ fn area_refusal(kind: FrameKind, area: &[u8], held: &[u8]) -> u8
 
 // 11, 14 and 15; 0 for none. The area's number counts only where the header fits; both are found first, so that an edit can exchange them.
 // That TXFN fits in 16 bits is not tested, for its type has no more.
-#[tactic(auto, unfolding(lent::specs::Refusals::first_of))]
+#[tactic(auto, unfolding(refusals::specs::Table::first_of))]
 fn opened_refusal(header: Header, area: &[u8], held: &[u8]) -> u8
     ensures { result ≡ first_of (opened_table header area.now held.now) }
 {

@@ -9,8 +9,8 @@ use lib.Dec.{eqb, leb, lit<}
 use lib.ListN.{length, take, drop, length-take}
 use Rattle.basics.specs.Lists.{is_some}
 use Rattle.basics.proofs.Tests.{left_true, right_true}
-use Rattle.lent.specs.Refusals.{Row, ◌unless◌, first_of}
-use Rattle.lent.proofs.Refusals.{unless_passed, first_earlier, first_later, accepted}
+use Rattle.refusals.specs.Table.{Row, ◌unless◌, first_of}
+use Rattle.refusals.proofs.Table.{unless_passed, first_earlier, first_later, accepted}
 use Rattle.lent.specs.Written.{written}
 use Rattle.lent.proofs.Written.{written_front}
 use Rattle.scrambler.specs.Scrambler.{taps_allowed, scrambled}

@@ -8,8 +8,8 @@ use borrow.Author.Tests.{eq-eqb, le-leb}
 use lib.Dec.{lit<}
 use lib.ListN.{length, take, drop}
 use Rattle.basics.specs.Lists.{is_some}
-use Rattle.lent.specs.Refusals.{first_of}
-use Rattle.lent.proofs.Refusals.{unless_passed}
+use Rattle.refusals.specs.Table.{first_of}
+use Rattle.refusals.proofs.Table.{unless_passed}
 use Rattle.scrambler.specs.Scrambler.{scrambled}
 use Rattle.scrambler.proofs.Laws.{scrambled_length, scrambled_twice}
 use Rattle.nearest.specs.Near.{near_header, differences}

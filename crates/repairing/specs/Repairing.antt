@@ -2,7 +2,7 @@
 -- lent scratch, and the bytes that are then handed back, with the place where they stand.
 use Rattle.std.specs.Prelude.{◌≡◌, cond, ◌&&◌, List, [], ◌∷◌, ℕ, eqb, leb, length, take}
 use Rattle.std.specs.Borrow.{Bor}
-use Rattle.lent.specs.Refusals.{Row, ◌unless◌, first_of, by, answer_by}
+use Rattle.refusals.specs.Table.{Row, ◌unless◌, first_of, by, answer_by}
 use Rattle.lent.specs.Written.{written}
 use Rattle.scrambler.specs.Scrambler.{taps_allowed, scrambled}
 use Rattle.nearest.specs.Near.{differences}

@@ -4,7 +4,7 @@
 pub mod body;
 
 ghost use Rattle.std.specs.Prelude.{◌≡◌, cond, [], ◌∷◌, ◌≤◌, eqb, length, take};
-ghost use Rattle.lent.specs.Refusals.{◌unless◌, first_of, by};
+ghost use Rattle.refusals.specs.Table.{◌unless◌, first_of, by};
 ghost use Rattle.lent.specs.Written.{written};
 ghost use Rattle.scrambler.specs.Scrambler.{scrambled};
 ghost use Rattle.repairing.specs.Repairing.{repair_table, RepairOutcome, shown_bytes, shown_place};

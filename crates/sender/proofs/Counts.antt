@@ -8,8 +8,8 @@ use native.Mathlib.Omega.{arith}
 use lib.ListN.{length}
 use borrow.Author.Tests.{eq-eqb, ne_eqb, lt-ltb, le-leb}
 use Rattle.basics.specs.Lists.{Bytes, is_some}
-use Rattle.lent.specs.Refusals.{first_of, by}
-use Rattle.lent.proofs.Refusals.{accepted}
+use Rattle.refusals.specs.Table.{first_of, by}
+use Rattle.refusals.proofs.Table.{accepted}
 use Rattle.link.specs.Link.{Packet, Queue, empty}
 use Rattle.link.specs.Store.{marked}
 use Rattle.link.specs.Parsing.{parse, packets_in, is_whole}

@@ -11,9 +11,9 @@ use borrow.Author.Tests.{eqb-true, eqb-false, ltb-false}
 use Rattle.basics.specs.Lists.{Bytes}
 use Rattle.basics.specs.Numbers.{above}
 use Rattle.basics.proofs.Lists.{bytes_take}
-use Rattle.lent.specs.Refusals.{◌when◌, by}
+use Rattle.refusals.specs.Table.{◌when◌, by}
 use Rattle.lent.specs.Written.{written}
-use Rattle.lent.proofs.Refusals.{unless_passed, row_passed, accepted}
+use Rattle.refusals.proofs.Table.{unless_passed, row_passed, accepted}
 use Rattle.lent.proofs.Written.{take_written}
 use Rattle.link.specs.Link.{IsPacket, Queue}
 use Rattle.link.proofs.Machine.{with_packet}

@@ -2,7 +2,7 @@
 use Rattle.std.specs.Prelude.{◌≡◌, ◌||◌, List, [], ◌∷◌, ℕ, ◌+◌, eqb, length}
 use Rattle.basics.specs.Sizes.{most_packet, queue_size}
 use Rattle.basics.specs.Numbers.{above}
-use Rattle.lent.specs.Refusals.{Row, ◌when◌, ◌unless◌, first_of, by, answer_by}
+use Rattle.refusals.specs.Table.{Row, ◌when◌, ◌unless◌, first_of, by, answer_by}
 use Rattle.link.specs.Store.{marked}
 use Rattle.ring.specs.Ring.{ring_written}
 use Rattle.marks.specs.Queue.{is_ring_whole}

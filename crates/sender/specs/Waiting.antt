@@ -1,7 +1,7 @@
 -- How many packets and bytes wait in the ring, for all inputs, so that no caller reads the queue's marks.
 use Rattle.std.specs.Prelude.{◌≡◌, List, [], ◌∷◌, ℕ, eqb, length}
 use Rattle.basics.specs.Sizes.{queue_size}
-use Rattle.lent.specs.Refusals.{Row, ◌unless◌, first_of, answer_by}
+use Rattle.refusals.specs.Table.{Row, ◌unless◌, first_of, answer_by}
 use Rattle.link.specs.Link.{Queue}
 use Rattle.marks.specs.Queue.{is_ring_whole, waiting_in, packet_count, byte_count}
 use Rattle.sender.specs.declared.Sender.{Sender}

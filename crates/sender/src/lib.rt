@@ -38,7 +38,7 @@ pub enum PutAnswer {
     Refused(u8),
 }
 
-#[tactic(auto, unfolding(crate::specs::Put::put_refusal, lent::specs::Refusals::first_of))]
+#[tactic(auto, unfolding(crate::specs::Put::put_refusal, refusals::specs::Table::first_of))]
 fn put_refusal(queue: &[u8], start: usize, used: usize, packet: &[u8]) -> u8
     ensures { result ≡ put_refusal queue.now start used packet.now }
 {

@@ -10,7 +10,7 @@ use Rattle.basics.specs.Lists.{Bytes}
 use Rattle.basics.specs.Numbers.{fits_bits}
 use Rattle.basics.proofs.Tests.{both_true}
 use Rattle.lent.specs.Written.{written}
-use Rattle.lent.proofs.Refusals.{accepted}
+use Rattle.refusals.proofs.Table.{accepted}
 use Rattle.lent.proofs.Written.{written_front}
 use Rattle.link.specs.Link.{Queue, IsQueue}
 use Rattle.link.proofs.Packing.{Opened, frame_for}

@@ -7,7 +7,7 @@ use native.Mathlib.Omega.{arith}
 use lib.ListN.{length, get_or}
 use Rattle.basics.specs.Lists.{Bytes}
 use Rattle.basics.proofs.Lists.{bytes_take}
-use Rattle.lent.proofs.Refusals.{accepted}
+use Rattle.refusals.proofs.Table.{accepted}
 use Rattle.link.specs.Link.{Queue}
 use Rattle.link.specs.Store.{layout}
 use Rattle.link.proofs.RoundTrip.{layout_back}

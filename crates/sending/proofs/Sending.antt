@@ -11,8 +11,8 @@ use borrow.Author.Tests.{eqb-true, leb-true, eq-eqb, ne_eqb}
 use Rattle.basics.specs.Lists.{Bytes}
 use Rattle.basics.proofs.Lists.{bytes_take}
 use Rattle.basics.proofs.Tests.{left_true, right_true}
-use Rattle.lent.specs.Refusals.{by, answer_by}
-use Rattle.lent.proofs.Refusals.{unless_passed}
+use Rattle.refusals.specs.Table.{by, answer_by}
+use Rattle.refusals.proofs.Table.{unless_passed}
 use Rattle.link.specs.Link.{Packet, Queue}
 use Rattle.link.specs.Store.{layout_rest, layout_packets, layout}
 use Rattle.link.specs.Parsing.{is_whole}

@@ -1,7 +1,7 @@
 -- Building the next frame (01, "Next frame"; 02, M-105), for all inputs.
 use Rattle.std.specs.Prelude.{◌≡◌, cond, ◌&&◌, List, [], ◌∷◌, ℕ, eqb, leb, length}
 use Rattle.basics.specs.Sizes.{area_size, frame_size, queue_size}
-use Rattle.lent.specs.Refusals.{Row, ◌unless◌, first_of, by, answer_by}
+use Rattle.refusals.specs.Table.{Row, ◌unless◌, first_of, by, answer_by}
 use Rattle.lent.specs.Written.{written}
 use Rattle.link.specs.Link.{Queue, busy}
 use Rattle.link.specs.Store.{layout}

@@ -17,7 +17,7 @@ pub enum NextAnswer {
     Refused(u8),
 }
 
-#[tactic(auto, unfolding(crate::specs::Next::next_refusal, lent::specs::Refusals::first_of))]
+#[tactic(auto, unfolding(crate::specs::Next::next_refusal, refusals::specs::Table::first_of))]
 fn next_refusal(
     taps: u32,
     fields: Fields,

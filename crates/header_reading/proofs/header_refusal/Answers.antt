@@ -1,6 +1,6 @@
 -- Each return gives the number of the first row that applies; both tests are made before the first return.
 use Rattle.std.proofs.Common.{sym, ◌∙◌}
-use Rattle.lent.specs.Refusals.{first_of}
+use Rattle.refusals.specs.Table.{first_of}
 use Rattle.header_reading.proofs.header_refusal.Goals as goal
 
 pub returns-then-not-sum : goal.returns-then-not-sum

@@ -1,6 +1,6 @@
 -- A refusal answers its number; with none there are exactly 16 bytes (`read_length`), which `header_of` requires.
 use Rattle.std.proofs.Common.{sym, ap, ◌∙◌}
-use Rattle.lent.proofs.Refusals.{refused, accepted}
+use Rattle.refusals.proofs.Table.{refused, accepted}
 use Rattle.header_reading.proofs.Calls.{read_length}
 use Rattle.header_reading.specs.declared.ReadAnswer.TheVariants.{Read, Refused}
 use Rattle.header_reading.proofs.read_header.Goals as goal

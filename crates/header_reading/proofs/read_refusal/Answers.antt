@@ -1,6 +1,6 @@
 -- 2 where there are not exactly 16 bytes; where there are, the rows behind it are those that `header_refusal` ensures.
 use Rattle.std.proofs.Common.{eq-eqb, ne_eqb}
-use Rattle.lent.specs.Refusals.{first_of}
+use Rattle.refusals.specs.Table.{first_of}
 use Rattle.header_reading.specs.Reading.{read_refusal}
 use Rattle.header_reading.proofs.read_refusal.Goals as goal
 

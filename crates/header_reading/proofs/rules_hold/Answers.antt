@@ -1,6 +1,6 @@
 -- Where RXFN is against its rule the definition's conjunction is false, and where it is not, the payload's rule decides (`with_test`).
 use Rattle.std.proofs.Common.{sym, ap, ◌∙◌, ◌/◌, ◌%◌, get_or, nat_eq}
-use Rattle.lent.proofs.Refusals.{with_test}
+use Rattle.refusals.proofs.Table.{with_test}
 use Rattle.fast_channel.specs.FastChannel.{payload_rule}
 use Rattle.header.specs.Header.{rxfn_rule}
 use Rattle.header_reading.specs.Reading.{rules_hold, fields_of}

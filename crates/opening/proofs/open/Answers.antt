@@ -7,9 +7,9 @@ use Prim.Native.Nat.{ℕ, ◌-◌}
 use lib.ListN.{length, take, drop, length-drop}
 use lib.Seq.{length-take-le}
 use Rattle.basics.specs.Lists.{is_some}
-use Rattle.lent.specs.Refusals.{first_of, by}
+use Rattle.refusals.specs.Table.{first_of, by}
 use Rattle.lent.specs.Written.{written}
-use Rattle.lent.proofs.Refusals.{refused, kept, accepted}
+use Rattle.refusals.proofs.Table.{refused, kept, accepted}
 use Rattle.header_reading.specs.Reading.{header_of}
 use Rattle.nearest.specs.Near.{near_header, differences}
 use Rattle.repairing.specs.Body.{words_near, repaired_body}

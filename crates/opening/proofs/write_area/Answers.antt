@@ -1,6 +1,6 @@
 -- A refusal keeps the buffer, and with none the area stands at its front.
 use mathlib.Core.Path.{refl}
-use Rattle.lent.proofs.Refusals.{kept, accepted}
+use Rattle.refusals.proofs.Table.{kept, accepted}
 use Rattle.opening.proofs.write_area.Goals as goal
 
 pub returns-then-refusal-ne0 : goal.returns-then-refusal-ne0

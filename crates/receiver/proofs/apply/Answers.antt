@@ -1,7 +1,7 @@
 -- A refusal by either table keeps hold and list; the numbers are the table's (`buffers_first`, `judged`). Else a DATA area is joined (`data_done`),
 -- and of another kind only the count is told (`other_done`).
 use mathlib.Core.Path.{sym, ◌∙◌}
-use Rattle.lent.proofs.Refusals.{refused, kept}
+use Rattle.refusals.proofs.Table.{refused, kept}
 use Rattle.receiver.specs.declared.ApplyAnswer.TheVariants.{Refused}
 use Rattle.receiver.proofs.Applying.{buffers_first, held_inside, held_length, judged, join_ready, data_done, other_done}
 use Rattle.receiver.proofs.apply.Goals as goal

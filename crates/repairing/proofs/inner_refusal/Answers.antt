@@ -1,5 +1,5 @@
 -- Each return gives the number of the first row that applies.
-use Rattle.lent.specs.Refusals.{first_of}
+use Rattle.refusals.specs.Table.{first_of}
 use Rattle.repairing.proofs.inner_refusal.Goals as goal
 
 pub returns-then-not-header : goal.returns-then-not-header

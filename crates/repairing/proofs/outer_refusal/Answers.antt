@@ -1,7 +1,7 @@
 -- Each return gives the number of the first row that applies; the row of 2 tests two lengths, one return for each.
 use mathlib.Core.Path.{sym, ◌∙◌}
 use borrow.Author.Tests.{le-leb, lt-leb, eq-eqb, ne_eqb}
-use Rattle.lent.specs.Refusals.{first_of}
+use Rattle.refusals.specs.Table.{first_of}
 use Rattle.repairing.proofs.outer_refusal.Goals as goal
 
 pub returns-then-not-are_taps : goal.returns-then-not-are_taps

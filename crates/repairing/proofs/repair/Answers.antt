@@ -4,10 +4,10 @@ use mathlib.Core.Bool.{cond}
 use mathlib.Core.Path.{sym, ap, ◌∙◌}
 use Rattle.basics.specs.Lists.{zeros}
 use lib.Dec.{eqb}
-use Rattle.lent.specs.Refusals.{by}
+use Rattle.refusals.specs.Table.{by}
 use Rattle.lent.specs.Written.{written}
 use Rattle.lent.proofs.Written.{written_whole}
-use Rattle.lent.proofs.Refusals.{refused, kept, accepted}
+use Rattle.refusals.proofs.Table.{refused, kept, accepted}
 use Rattle.scrambler.specs.Scrambler.{scrambled}
 use Rattle.repairing.specs.declared.RepairAnswer.TheVariants.{Repaired, Refused}
 use Rattle.repairing.proofs.Laws.{outer_first, outer_passed, inner_then, count_is, repaired_is}

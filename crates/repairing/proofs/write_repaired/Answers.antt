@@ -6,7 +6,7 @@ use Prim.Native.Nat.{ℕ}
 use borrow.Author.Tests.{eq-eqb, ne_eqb}
 use lib.Dec.{eqb}
 use Rattle.lent.specs.Written.{written}
-use Rattle.lent.proofs.Refusals.{kept, accepted}
+use Rattle.refusals.proofs.Table.{kept, accepted}
 use Rattle.repairing.proofs.write_repaired.Goals as goal
 
 none-wrong : (n : ℕ) (before after : List ℕ) → n ≡ 0 → before ≡ cond (eqb n 0) before after

@@ -2,7 +2,7 @@
 use mathlib.Core.Path.{refl, sym, ap, ◌∙◌}
 use mathlib.Core.List.{List}
 use Prim.Native.Nat.{ℕ, ◌+◌}
-use Rattle.lent.proofs.Refusals.{refused, kept, accepted}
+use Rattle.refusals.proofs.Table.{refused, kept, accepted}
 use Rattle.ring.specs.Ring.{ring_written}
 use Rattle.sender.specs.declared.PutAnswer.TheVariants.{Refused}
 use Rattle.sender.proofs.Putting.{put_passed, put_written}

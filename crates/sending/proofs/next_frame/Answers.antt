@@ -5,7 +5,7 @@ use Prim.Native.Nat.{ℕ}
 use borrow.Author.Rules.{rules}
 use Rattle.basics.proofs.Lists.{bytes_each}
 use Rattle.lent.specs.Written.{written}
-use Rattle.lent.proofs.Refusals.{refused, kept, accepted}
+use Rattle.refusals.proofs.Table.{refused, kept, accepted}
 use Rattle.header.specs.declared.FrameKind.{FrameKind}
 use Rattle.header.specs.declared.Header.{Header}
 use Rattle.frame.specs.Frame.{frame_bytes}

@@ -2,7 +2,7 @@
 use native.Mathlib.Omega.{arith}
 use mathlib.Core.Path.{sym, ap, ◌∙◌}
 use lib.Seq.{length-take-le}
-use Rattle.lent.specs.Refusals.{first_of}
+use Rattle.refusals.specs.Table.{first_of}
 use Rattle.opening.specs.Opening.{repaired_table}
 use Rattle.opening.proofs.Laws.{header_first, payload_then}
 use Rattle.opening.proofs.judging.inner_refusal.Goals as goal

@@ -5,7 +5,7 @@ use borrow.Author.Tests.{le-leb, lt-leb, eq-eqb, ne_eqb}
 use lib.ListN.{take}
 use lib.Seq.{length-take-le}
 use Rattle.basics.specs.Lists.{same}
-use Rattle.lent.specs.Refusals.{first_of}
+use Rattle.refusals.specs.Table.{first_of}
 use Rattle.opening.proofs.judging.outer_refusal.Goals as goal
 
 pub returns-then-not-are_taps : goal.returns-then-not-are_taps

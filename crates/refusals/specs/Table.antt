@@ -23,7 +23,3 @@ first_of (row ∷ rows) = cond row.applies row.number (first_of rows)
 -- what is done where the number is 0, and what stands where the call is refused
 unfoldable pub by : {A : Type 0} → ℕ → A → A → A
 by number done refused = cond (eqb number 0) done refused
-
--- an answer: the case of a call that was done, or that of a refusal, with its number
-abbrev pub answer_by : {A : Type 0} → ℕ → A → (ℕ → A) → A
-answer_by number done refused = by number done (refused number)

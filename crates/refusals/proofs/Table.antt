@@ -8,7 +8,7 @@ use native.Mathlib.Omega.{arith}
 use borrow.Author.Tests.{eq-eqb, ne_eqb, eqb-true, eqb-false, ltb-true, not-false}
 use lib.Dec.{eqb, ltb}
 use Rattle.basics.proofs.Tests.{left_true, right_true}
-use Rattle.lent.specs.Refusals.{Row, ◌unless◌, first_of, by}
+use Rattle.refusals.specs.Table.{Row, ◌unless◌, first_of, by}
 
 module _ {A : Type 0} where
   -- a refusal answers its number
