@@ -1,12 +1,14 @@
 -- Reading the list of packets received (01, "Reading the list"), from a position and for all inputs. An entry is a two-byte length, high
 -- byte first, and the packet. `entry` answers by numbers, `packet` hands back the packet's bytes.
-use Rattle.std.specs.Prelude.{◌≡◌, cond, not, ◌&&◌, List, [], ◌∷◌, ℕ, zero, suc, ◌+◌, ◌*◌, eqb, leb, length, get_or, take, drop}
+use Rattle.std.specs.Prelude.{◌≡◌, cond, not, ◌&&◌, List, [], ◌∷◌, ℕ, zero, suc, ◌+◌, ◌*◌, eqb, leb, length, get_or, take, drop, Some, None, Result, Ok, Err}
+use Rattle.std.specs.Prelude as code
 use Rattle.std.proofs.Math.Option.{Option, none, some, map}
 use Rattle.basics.specs.Sizes.{most_packet}
-use Rattle.refusals.specs.Table.{Row, ◌when◌, first_of, answer_by}
+use Rattle.refusals.specs.Numbers.{answer_by}
+use Rattle.refusals.specs.Table.{Row, ◌when◌, first_of}
+use Rattle.refusals.specs.declared.Refusal.{Refusal}
 use Rattle.link.specs.Link.{Packet}
-use Rattle.list.specs.declared.EntryAnswer.{EntryAnswer}
-use Rattle.list.specs.declared.EntryAnswer.TheVariants as answer
+use Rattle.list.specs.declared.Place.{Place}
 
 -- the length of the packet that stands whole at a position: 1 to 9,000, and as many bytes follow; 0 for none
 unfoldable pub length_at : List ℕ → ℕ → ℕ
@@ -24,22 +26,16 @@ unfoldable pub entry_refusal : List ℕ → ℕ → ℕ
 entry_refusal list position = first_of (entry_table list position)
 
 -- what stands at a position: the end; or the packet's place and length, and the position after it
-abbrev pub found_at : List ℕ → ℕ → EntryAnswer
+abbrev pub found_at : List ℕ → ℕ → code.Option Place
 found_at list position =
     let n = length_at list position in
-    cond (eqb position (length list)) answer.End (answer.Packet (position + 2) n (position + 2 + n))
+    cond (eqb position (length list)) None (Some (record { start = position + 2; length = n; next = position + 2 + n }))
 
--- The paper's number for each case of the answer (01, last section), and the case for a number; demand 1 of crate demands ties the two.
-abbrev pub entry_number : EntryAnswer → ℕ
-entry_number (answer.Packet start length next) = 0
-entry_number answer.End = 0
-entry_number (answer.Refused number) = number
-
-unfoldable pub entry_answer : List ℕ → ℕ → EntryAnswer
-entry_answer list position = answer_by (entry_refusal list position) (found_at list position) answer.Refused
+unfoldable pub entry_answer : List ℕ → ℕ → Result (code.Option Place) Refusal
+entry_answer list position = answer_by (entry_refusal list position) (found_at list position)
 
 -- the whole outcome of `entry`
-abbrev pub EntryOutcome : List ℕ → ℕ → EntryAnswer → Type 0
+abbrev pub EntryOutcome : List ℕ → ℕ → Result (code.Option Place) Refusal → Type 0
 EntryOutcome list position r = r ≡ entry_answer list position
 
 -- ---------------------------------------------------------------- packet
@@ -61,10 +57,10 @@ pub record PacketOutcome (list : List ℕ) (from : ℕ × ℕ) (position : ℕ) 
 -- ---------------------------------------------------------------- the whole list
 
 -- what comes of an answer: the packet, and those read from the next position on; none after a refusal
-abbrev pub read_on : EntryAnswer → Packet → (ℕ → Option (List Packet)) → Option (List Packet)
-read_on (answer.Packet start length next) packet from = map (λ packets. packet ∷ packets) (from next)
-read_on answer.End packet from = some []
-read_on (answer.Refused number) packet from = none
+abbrev pub read_on : Result (code.Option Place) Refusal → Packet → (ℕ → Option (List Packet)) → Option (List Packet)
+read_on (Ok (Some entry)) packet from = map (λ packets. packet ∷ packets) (from entry.next)
+read_on (Ok None) packet from = some []
+read_on (Err refusal) packet from = none
 
 -- the packets from a position to the end, by `entry` and `packet`, in fewer than k readings
 abbrev pub packets_from : ℕ → List ℕ → ℕ → Option (List Packet)

@@ -1,11 +1,14 @@
 -- Applying an opened frame (01, "Receiving"; 02, M-106), for all inputs: what was missed and what is still held, the records of the area and what they do, the
 -- refusals, and what is written back. What one record does is `on_piece`, and what 15 asks is `fits`, both in crates/link/specs/Link.antt.
-use Rattle.std.specs.Prelude.{◌≡◌, Bool, true, false, cond, ◌&&◌, List, [], ◌∷◌, ◌++◌, ℕ, eqb, leb, length, take}
+use Rattle.std.specs.Prelude.{◌≡◌, Bool, true, false, cond, ◌&&◌, List, [], ◌∷◌, ◌++◌, ℕ, eqb, leb, length, take, Some, None, Result, Ok, Err}
+use Rattle.std.specs.Prelude as code
 use Rattle.std.proofs.Math.Option.{Option, none, some}
 use Rattle.basics.specs.Sizes.{area_size, most_held, hold_size, list_size}
 use Rattle.basics.specs.Numbers.{above}
 use Rattle.basics.specs.Counts.{next_txfn}
-use Rattle.refusals.specs.Table.{Row, ◌when◌, ◌unless◌, first_of, by, answer_by}
+use Rattle.refusals.specs.Numbers.{answer_by}
+use Rattle.refusals.specs.Table.{Row, ◌when◌, ◌unless◌, first_of, by}
+use Rattle.refusals.specs.declared.Refusal.{Refusal}
 use Rattle.lent.specs.Written.{written}
 use Rattle.header.specs.Header.{header_fits}
 use Rattle.header.specs.declared.FrameKind.{FrameKind}
@@ -16,11 +19,8 @@ use Rattle.link.specs.Link.{Piece, Step, missed, held_after, on_pieces, fits}
 use Rattle.basics.specs.Lists.{is_some}
 use Rattle.link.specs.Store.{layout_packets}
 use Rattle.packing.specs.Records.{read}
-use Rattle.receiver.specs.declared.Expected.{Expected}
-use Rattle.receiver.specs.declared.Expected.TheVariants.{None, Frame}
 use Rattle.receiver.specs.declared.Receiver.{Receiver}
-use Rattle.receiver.specs.declared.ApplyAnswer.{ApplyAnswer}
-use Rattle.receiver.specs.declared.ApplyAnswer.TheVariants.{Applied, Refused}
+use Rattle.receiver.specs.declared.Applied.{Applied}
 
 -- ---------------------------------------------------------------- the state
 
@@ -28,13 +28,13 @@ use Rattle.receiver.specs.declared.ApplyAnswer.TheVariants.{Applied, Refused}
 abbrev pub fresh_receiver : Receiver
 fresh_receiver = record { expected = None; held = 0 }
 
-abbrev pub expected_number : Expected → Option ℕ
+abbrev pub expected_number : code.Option Txfn → Option ℕ
 expected_number None = none
-expected_number (Frame txfn) = some txfn.0
+expected_number (Some txfn) = some txfn.0
 
 -- after an accepted frame of any type: its TXFN plus 1 is expected, and so many bytes are held
 abbrev pub receiver_then : Txfn → ℕ → Receiver
-receiver_then txfn held = record { expected = Frame (record { 0 = next_txfn txfn.0 }); held = held }
+receiver_then txfn held = record { expected = Some (record { 0 = next_txfn txfn.0 }); held = held }
 
 -- ---------------------------------------------------------------- the records
 
@@ -76,11 +76,6 @@ area_table held records =
 abbrev pub opened_table : Header → List ℕ → List ℕ → List Row
 opened_table header area held = 11 unless header_fits header ∷ area_table held (pieces_of header.kind area)
 
--- the paper's number for each case of the answer (01, last section)
-abbrev pub apply_number : ApplyAnswer → ℕ
-apply_number (Applied missed packets listed receiver) = 0
-apply_number (Refused number) = number
-
 -- ---------------------------------------------------------------- the call
 
 -- (TXFN − expected) modulo 65,536; 0 where none was expected
@@ -109,13 +104,17 @@ module _ (header : Header) (area : List ℕ) (receiver : Receiver) (hold : List 
 
     -- The whole outcome of `apply`: the answer, and the bytes of the hold and of the list. The part then held is the front of the hold; completing a packet,
     -- dropping, skipping and other types so leave the hold's bytes. The list is written from byte 0 on. All other bytes keep their values.
-    pub record ApplyOutcome (r : ApplyAnswer) (hold' list' : List ℕ) : Type 0 where
-      pub answer : r ≡ answer_by apply_refusal
-          (Applied (missed_count header receiver) (length joined.out) (length list_then) (receiver_then header.txfn (length joined.held))) Refused
+    pub record ApplyOutcome (r : Result Applied Refusal) (hold' list' : List ℕ) : Type 0 where
+      pub answer : r ≡ answer_by apply_refusal (record {
+        missed = missed_count header receiver;
+        packets = length joined.out;
+        listed = length list_then;
+        receiver = receiver_then header.txfn (length joined.held);
+      })
       pub held : hold' ≡ by apply_refusal (written hold 0 joined.held) hold
       pub listed : list' ≡ by apply_refusal (written list 0 list_then) list
 
 -- the receiver after an answer: a refusal leaves it as it was
-abbrev pub receiver_after : Receiver → ApplyAnswer → Receiver
-receiver_after before (Applied missed packets listed receiver) = receiver
-receiver_after before (Refused number) = before
+abbrev pub receiver_after : Receiver → Result Applied Refusal → Receiver
+receiver_after before (Ok applied) = applied.receiver
+receiver_after before (Err refusal) = before

@@ -2,10 +2,10 @@
 #![tactic(auto)]
 
 ghost use Rattle.std.specs.Prelude.{◌≡◌, cond, eqb};
+ghost use Rattle.refusals.specs.Numbers.{judged_by};
 ghost use Rattle.refusals.specs.Table.{first_of};
 ghost use Rattle.link.specs.Link.{missed};
-ghost use Rattle.receiver.specs.declared.ApplyAnswer.TheVariants.{Applied};
-ghost use Rattle.receiver.specs.Applying.{fresh_receiver, expected_number, receiver_then, is_data, pieces_of, are_sized};
+ghost use Rattle.receiver.specs.Applying.{fresh_receiver, expected_number, receiver_then, pieces_of, are_sized};
 ghost use Rattle.receiver.specs.Applying.{buffers_table, area_table, opened_table, ApplyOutcome};
 
 use basics::sizes;
@@ -13,18 +13,12 @@ use counts::Txfn;
 use header::{FrameKind, Header, coding};
 use joining::fitting;
 use joining::growing::Joined;
+use refusals::Refusal;
 
-// The number that the next frame should have; none before the first frame.
-#[derive(Clone, Copy)]
-pub enum Expected {
-    None,
-    Frame(Txfn),
-}
-
-// What is expected, and how many bytes of the hold are held.
+// The number that the next frame should have, none before the first frame; and how many bytes of the hold are held.
 #[derive(Clone, Copy)]
 pub struct Receiver {
-    pub expected: Expected,
+    pub expected: Option<Txfn>,
     pub held: usize,
 }
 
@@ -34,30 +28,28 @@ impl Receiver {
         ensures { result ≡ fresh_receiver }
     {
         Receiver {
-            expected: Expected::None,
+            expected: None,
             held: 0,
         }
     }
 }
 
+// How many frames were missed, how many packets the frame completed, how many bytes of the list they take, and the receiver after the frame.
 #[derive(Clone, Copy)]
-pub enum ApplyAnswer {
-    Applied {
-        missed: u16,
-        packets: usize,
-        listed: usize,
-        receiver: Receiver,
-    },
-    Refused(u8),
+pub struct Applied {
+    pub missed: u16,
+    pub packets: usize,
+    pub listed: usize,
+    pub receiver: Receiver,
 }
 
 // How many frames are missing before one with this number.
-fn missed_before(expected: Expected, txfn: Txfn) -> u16
+fn missed_before(expected: Option<Txfn>, txfn: Txfn) -> u16
     ensures { result ≡ missed (expected_number expected) txfn.0 }
 {
     match expected {
-        Expected::None => 0,
-        Expected::Frame(number) => txfn.missed(number),
+        None => 0,
+        Some(number) => txfn.missed(number),
     }
 }
 
@@ -68,118 +60,85 @@ fn held_after(missed: u16, held: usize) -> usize
     if missed == 0 { held } else { 0 }
 }
 
-fn is_data(kind: FrameKind) -> bool
-    ensures { result ≡ is_data kind }
-{
-    match kind {
-        FrameKind::Idle => false,
-        FrameKind::Data => true,
-        FrameKind::Type2 => false,
-        FrameKind::Type3 => false,
-    }
-}
-
-// Whether area, hold and list have their sizes (2 where not).
+// Whether area, hold and list have their sizes.
 fn are_sized(area: &[u8], hold: &[u8], list: &[u8]) -> bool
     ensures { result ≡ are_sized area.now hold.now list.now }
 {
-    if area.len() != sizes::AREA_SIZE {
-        return false;
-    }
-    if hold.len() != sizes::HOLD_SIZE {
-        return false;
-    }
-    sizes::LIST_SIZE <= list.len()
+    area.len() == sizes::AREA_SIZE
+        && hold.len() == sizes::HOLD_SIZE
+        && sizes::LIST_SIZE <= list.len()
 }
 
-// 2 and 3; 0 for neither.
-#[tactic(auto, unfolding(refusals::specs::Table::first_of))]
-fn buffers_refusal(area: &[u8], held: usize, hold: &[u8], list: &[u8]) -> u8
-    ensures { result ≡ first_of (buffers_table area.now held hold.now list.now) }
+// Refusals: 2, 3.
+#[tactic(auto, unfolding(refusals::specs::Table::first_of, refusals::specs::Table::by, refusals::specs::Numbers::refusal_of))]
+fn judge_buffers(area: &[u8], held: usize, hold: &[u8], list: &[u8]) -> Result<(), Refusal>
+    ensures { result ≡ judged_by (first_of (buffers_table area.now held hold.now list.now)) }
 {
-    let sized = are_sized(area, hold, list);
-    if !sized {
-        return 2;
+    if !are_sized(area, hold, list) {
+        return Err(Refusal::Size);
     }
-    if sizes::MOST_HELD < held { 3 } else { 0 }
+    if sizes::MOST_HELD < held {
+        return Err(Refusal::State);
+    }
+    Ok(())
 }
 
-// 14 and 15; 0 for neither. Only a DATA area is looked into.
-fn area_refusal(kind: FrameKind, area: &[u8], held: &[u8]) -> u8
-    ensures { result ≡ first_of (area_table held.now (pieces_of kind area.now)) }
+// Refusals: 14, 15. Only a DATA area is looked into.
+fn judge_area(kind: FrameKind, area: &[u8], held: &[u8]) -> Result<(), Refusal>
+    ensures { result ≡ judged_by (first_of (area_table held.now (pieces_of kind area.now))) }
 {
-    if !is_data(kind) {
-        return 0;
+    if !matches!(kind, FrameKind::Data) {
+        return Ok(());
     }
     if !packing::is_allowed(area) {
-        return 14;
+        return Err(Refusal::Packing);
     }
-    if fitting::first_fits(area, held) {
-        return 0;
+    if !fitting::first_fits(area, held) {
+        return Err(Refusal::JoinedLength);
     }
-    15
+    Ok(())
 }
 
-// 11, 14 and 15; 0 for none. The area's number counts only where the header fits; both are found first, so that an edit can exchange them.
-// That TXFN fits in 16 bits is not tested, for its type has no more.
-#[tactic(auto, unfolding(refusals::specs::Table::first_of))]
-fn opened_refusal(header: Header, area: &[u8], held: &[u8]) -> u8
-    ensures { result ≡ first_of (opened_table header area.now held.now) }
+// Refusals: 11, 14, 15. That TXFN fits in 16 bits is not tested, for its type has no more.
+fn judge_opened(header: Header, area: &[u8], held: &[u8]) -> Result<(), Refusal>
+    ensures { result ≡ judged_by (first_of (opened_table header area.now held.now)) }
 {
-    let kind = header.kind;
-    let fields = header.fields;
-    let fits = coding::fields_fit(fields);
-    let number = area_refusal(kind, area, held);
-    if fits { number } else { 11 }
-}
-
-// The answer to a frame that is not refused: the number after its own is expected.
-fn applied(missed: u16, txfn: Txfn, joined: Joined) -> ApplyAnswer
-    ensures { result ≡ Applied missed joined.packets joined.listed (receiver_then txfn joined.held) }
-{
-    let next = txfn.next();
-    ApplyAnswer::Applied {
-        missed,
-        packets: joined.packets,
-        listed: joined.listed,
-        receiver: Receiver {
-            expected: Expected::Frame(next),
-            held: joined.held,
-        },
+    if !coding::fields_fit(header.fields) {
+        return Err(Refusal::ReceivedField);
     }
+    judge_area(header.kind, area, held)
 }
 
-// Applies an opened frame: its packets go to the front of the list, and what is then held stands at the front of the hold. Refusals: 2, 3, 11, 14, 15.
+// Applies an opened frame: its packets go to the front of the list, and what is then held stands at the front of the hold. The number after the frame's own
+// is expected then. Refusals: 2, 3, 11, 14, 15.
 pub fn apply(
     header: Header,
     area: &[u8],
     receiver: Receiver,
     hold: &mut [u8],
     list: &mut [u8],
-) -> ApplyAnswer
+) -> Result<Applied, Refusal>
     ensures { ApplyOutcome header area.now receiver hold.old list.old result hold.new list.new }
 {
-    let buffers = buffers_refusal(area, receiver.held, hold, list);
-    if buffers != 0 {
-        return ApplyAnswer::Refused(buffers);
-    }
-    let txfn = header.txfn;
-    let kind = header.kind;
-    let expected = receiver.expected;
-    let missed = missed_before(expected, txfn);
+    judge_buffers(area, receiver.held, hold, list)?;
+    let missed = missed_before(receiver.expected, header.txfn);
     let held = held_after(missed, receiver.held);
-    let number = opened_refusal(header, area, &hold[..held]);
-    if number != 0 {
-        return ApplyAnswer::Refused(number);
-    }
-    if is_data(kind) {
-        let joined = joining::join(area, held, hold, list);
-        return applied(missed, txfn, joined);
-    }
-    let unjoined = Joined {
-        held,
-        packets: 0,
-        listed: 0,
+    judge_opened(header, area, &hold[..held])?;
+    let joined = match header.kind {
+        FrameKind::Data => joining::join(area, held, hold, list),
+        _ => Joined {
+            held,
+            packets: 0,
+            listed: 0,
+        },
     };
-    applied(missed, txfn, unjoined)
+    Ok(Applied {
+        missed,
+        packets: joined.packets,
+        listed: joined.listed,
+        receiver: Receiver {
+            expected: Some(header.txfn.next()),
+            held: joined.held,
+        },
+    })
 }

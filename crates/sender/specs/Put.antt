@@ -1,14 +1,14 @@
 -- Putting a packet into the ring (01, "Queue"; 02, M-105), for all inputs.
-use Rattle.std.specs.Prelude.{◌≡◌, ◌||◌, List, [], ◌∷◌, ℕ, ◌+◌, eqb, length}
+use Rattle.std.specs.Prelude.{◌≡◌, ◌||◌, List, [], ◌∷◌, ℕ, ◌+◌, eqb, length, Result}
 use Rattle.basics.specs.Sizes.{most_packet, queue_size}
 use Rattle.basics.specs.Numbers.{above}
-use Rattle.refusals.specs.Table.{Row, ◌when◌, ◌unless◌, first_of, by, answer_by}
+use Rattle.refusals.specs.Numbers.{answer_by}
+use Rattle.refusals.specs.Table.{Row, ◌when◌, ◌unless◌, first_of, by}
+use Rattle.refusals.specs.declared.Refusal.{Refusal}
 use Rattle.link.specs.Store.{marked}
 use Rattle.ring.specs.Ring.{ring_written}
 use Rattle.marks.specs.Queue.{is_ring_whole}
 use Rattle.sender.specs.declared.Sender.{Sender}
-use Rattle.sender.specs.declared.PutAnswer.{PutAnswer}
-use Rattle.sender.specs.declared.PutAnswer.TheVariants.{Taken, Refused}
 
 -- the ring begins at byte 0, nothing of it is used, and the first frame is frame 0
 abbrev pub fresh_sender : Sender
@@ -35,13 +35,8 @@ put_sender sender packet = record { start = sender.start; used = sender.used + 2
 abbrev pub put_bytes : List ℕ → ℕ → ℕ → List ℕ → List ℕ
 put_bytes queue start used packet = ring_written queue start used (marked (length packet) packet)
 
--- the paper's number for each case of the answer (01, last section)
-abbrev pub put_number : PutAnswer → ℕ
-put_number (Taken sender) = 0
-put_number (Refused number) = number
-
 -- The whole outcome of `put`: the answer, and the ring's bytes. What waits afterwards is what waited before, with the packet behind it: `put_stands` in
 -- proofs/Putting.antt.
-pub record PutOutcome (queue : List ℕ) (sender : Sender) (packet : List ℕ) (r : PutAnswer) (after : List ℕ) : Type 0 where
-  pub answer : r ≡ answer_by (put_refusal queue sender.start sender.used packet) (Taken (put_sender sender packet)) Refused
+pub record PutOutcome (queue : List ℕ) (sender : Sender) (packet : List ℕ) (r : Result Sender Refusal) (after : List ℕ) : Type 0 where
+  pub answer : r ≡ answer_by (put_refusal queue sender.start sender.used packet) (put_sender sender packet)
   pub bytes : after ≡ by (put_refusal queue sender.start sender.used packet) (put_bytes queue sender.start sender.used packet) queue

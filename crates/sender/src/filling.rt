@@ -1,5 +1,5 @@
 // Taking the next frame's records off the ring: the area is filled, then what was sent is freed.
-ghost use Rattle.std.specs.Prelude.{◌≡◌, true, cond, ◌+◌, ◌≤◌, ◌<◌, length, take, drop};
+ghost use Rattle.std.specs.Prelude.{◌≡◌, true, cond, ◌+◌, ◌≤◌, ◌<◌, length, take, drop, IfSome};
 ghost use Rattle.basics.specs.Lists.{zeros};
 ghost use Rattle.basics.specs.Sizes.{area_size, most_held, queue_size};
 ghost use Rattle.lent.specs.Written.{written};
@@ -9,72 +9,73 @@ ghost use Rattle.ring.specs.Ring.{round_from};
 ghost use Rattle.marks.specs.Queue.{used_in};
 ghost use Rattle.sender.specs.Filling.{FillOutcome, remaining, Freed};
 
+use crate::Sender;
 use basics::sizes;
 
-// Where filling stopped in the used bytes, and how many bytes of a packet that it cut are unsent; 0 where it cut none.
+// Where filling stopped in the used bytes; and of a packet that it cut, how many bytes are unsent.
 #[derive(Clone, Copy)]
 pub struct Filled {
     pub stop: usize,
-    pub unsent: usize,
+    pub unsent: Option<usize>,
 }
 
 // Writes records of the waiting packets into an area of zeros: while one waits and 3 or more bytes remain, as much of it as fits.
-pub fn fill(queue: &[u8], start: usize, used: usize, area: &mut [u8]) -> Filled
-    requires { (start ≤ length queue.now) × (used ≤ length queue.now) × (is_whole (used_in queue.now start used) ≡ true)
-        × (area.old ≡ zeros area_size) }
-    ensures { FillOutcome (used_in queue.now start used) result area.new }
+pub fn fill(queue: &[u8], sender: Sender, area: &mut [u8]) -> Filled
+    requires { (sender.start ≤ length queue.now) × (sender.used ≤ length queue.now)
+        × (is_whole (used_in queue.now sender.start sender.used) ≡ true) × (area.old ≡ zeros area_size) }
+    ensures { FillOutcome (used_in queue.now sender.start sender.used) result area.new }
 {
     let mut at: usize = 0;
     let mut from: usize = 0;
-    while from < used {
+    // From mark to mark, so that no index is counted.
+    while from < sender.used {
         let room = sizes::AREA_SIZE - at;
         if room < 3 {
-            return Filled {
-                stop: from,
-                unsent: 0,
-            };
+            break;
         }
-        let mark = marks::mark_round(queue, start, from);
+        let mark = marks::mark_round(queue, sender.start, from);
         let first = mark < sizes::BEGUN_BIT;
         let length = mark % sizes::BEGUN_BIT;
         let behind = from + 2;
         if room < 2 + length {
             let fitting = room - 2;
-            write_record(area, at, first, false, queue, start, behind, fitting);
+            let record = Record { first, last: false, from: behind, length: fitting };
+            write_record(area, at, record, queue, sender.start);
             return Filled {
                 stop: behind + fitting,
-                unsent: length - fitting,
+                unsent: Some(length - fitting),
             };
         }
-        write_record(area, at, first, true, queue, start, behind, length);
+        let record = Record { first, last: true, from: behind, length };
+        write_record(area, at, record, queue, sender.start);
         at = at + 2 + length;
         from = behind + length;
     }
     Filled {
         stop: from,
-        unsent: 0,
+        unsent: None,
     }
 }
 
-// Writes a record: its mark, and n bytes of the ring, from `from` bytes behind its start on.
-fn write_record(
-    area: &mut [u8],
-    at: usize,
+// A record to write: the bits of its mark, and which bytes behind the ring's start are its own.
+#[derive(Clone, Copy)]
+struct Record {
     first: bool,
     last: bool,
-    queue: &[u8],
-    start: usize,
     from: usize,
-    n: usize,
-)
-    requires { (at + 2 + n ≤ length area.old) × (n < 2048) × (start ≤ length queue.now) × (from + n ≤ length queue.now) }
-    ensures { area.new ≡ written area.old at
-        (record_bytes (record { first = first; last = last; bytes = take n (drop from (round_from start queue.now)) })) }
+    length: usize,
+}
+
+// Writes a record into the area: its mark, and its bytes off the ring.
+fn write_record(area: &mut [u8], at: usize, record: Record, queue: &[u8], start: usize)
+    requires { (at + 2 + record.length ≤ length area.old) × (record.length < 2048) × (start ≤ length queue.now)
+        × (record.from + record.length ≤ length queue.now) }
+    ensures { area.new ≡ written area.old at (record_bytes (record {
+        first = record.first; last = record.last; bytes = take record.length (drop record.from (round_from start queue.now)) })) }
 {
-    let mark = value_of(first, sizes::FIRST_BIT) + value_of(last, sizes::LAST_BIT) + n;
-    let mark_bytes = marks::bytes_of(mark);
-    lent::write_at(area, at, &mark_bytes);
-    ring::copy_out(queue, start, from, n, area, at + 2);
+    let mark = value_of(record.first, sizes::FIRST_BIT) + value_of(record.last, sizes::LAST_BIT) + record.length;
+    lent::write_at(area, at, &marks::bytes_of(mark));
+    ring::copy_out(queue, start, record.from, record.length, area, at + 2);
 }
 
 // A mark's bit, as a number.
@@ -85,30 +86,28 @@ fn value_of(set: bool, value: usize) -> usize
     if set { value } else { 0 }
 }
 
-// What waits after a frame: where it begins in the ring, and how many bytes it is.
-#[derive(Clone, Copy)]
-pub struct Left {
-    pub start: usize,
-    pub used: usize,
-}
-
-// Frees the ring up to where filling stopped. A cut packet's new mark, with bit 15 "begun", goes over the two bytes before its rest; no other byte is written.
-pub fn free_front(queue: &mut [u8], start: usize, used: usize, stop: usize, unsent: usize) -> Left
-    requires { (length queue.old ≡ queue_size) × (start < queue_size) × (used ≤ queue_size) × (stop ≤ used)
-        × (unsent ≤ most_held) × ((unsent ≡ 0 → ⊥) → 2 ≤ stop) }
-    ensures { Freed queue.old start used (remaining unsent (drop stop (used_in queue.old start used))) result queue.new }
+// Frees the ring up to where filling stopped: gives the sender with what is left. A cut packet's new mark, with bit 15 "begun", goes over the two bytes before
+// its rest; no other byte is written.
+pub fn free_front(queue: &mut [u8], sender: Sender, filled: Filled) -> Sender
+    requires { (length queue.old ≡ queue_size) × (sender.start < queue_size) × (sender.used ≤ queue_size) × (filled.stop ≤ sender.used)
+        × IfSome filled.unsent (λ unsent. (unsent ≤ most_held) × (2 ≤ filled.stop)) }
+    ensures freed { Freed queue.old sender (remaining filled.unsent (drop filled.stop (used_in queue.old sender.start sender.used))) result queue.new }
+    ensures next { result.next ≡ sender.next }
 {
-    if unsent == 0 {
-        return Left {
-            start: (start + stop) % sizes::QUEUE_SIZE,
-            used: used - stop,
-        };
-    }
-    let mark_bytes = marks::bytes_of(sizes::BEGUN_BIT + unsent);
-    let front = (start + (stop - 2)) % sizes::QUEUE_SIZE;
-    ring::write_at(queue, front, 0, &mark_bytes);
-    Left {
-        start: front,
-        used: used - stop + 2,
+    match filled.unsent {
+        None => Sender {
+            start: (sender.start + filled.stop) % sizes::QUEUE_SIZE,
+            used: sender.used - filled.stop,
+            ..sender
+        },
+        Some(unsent) => {
+            let start = (sender.start + (filled.stop - 2)) % sizes::QUEUE_SIZE;
+            ring::write_at(queue, start, 0, &marks::bytes_of(sizes::BEGUN_BIT + unsent));
+            Sender {
+                start,
+                used: sender.used - filled.stop + 2,
+                ..sender
+            }
+        }
     }
 }

@@ -5,11 +5,13 @@
 pub mod filling;
 
 ghost use Rattle.std.specs.Prelude.{◌≡◌};
+ghost use Rattle.refusals.specs.Numbers.{judged_by};
 ghost use Rattle.sender.specs.Put.{fresh_sender, put_refusal, PutOutcome};
-ghost use Rattle.sender.specs.Waiting.{WaitingOutcome};
+ghost use Rattle.sender.specs.Waiting.{waiting_refusal, WaitingOutcome};
 
 use basics::sizes;
 use counts::Txfn;
+use refusals::Refusal;
 
 // Where the waiting packets begin in the ring, how many of its bytes they use, and the number of the next frame.
 #[derive(Clone, Copy)]
@@ -32,81 +34,65 @@ impl Sender {
     }
 }
 
-#[derive(Clone, Copy)]
-pub enum PutAnswer {
-    Taken(Sender),
-    Refused(u8),
-}
-
-#[tactic(auto, unfolding(crate::specs::Put::put_refusal, refusals::specs::Table::first_of))]
-fn put_refusal(queue: &[u8], start: usize, used: usize, packet: &[u8]) -> u8
-    ensures { result ≡ put_refusal queue.now start used packet.now }
+// Refusals: 2, 3.
+fn judge_ring(queue: &[u8], sender: Sender) -> Result<(), Refusal>
+    ensures { result ≡ judged_by (waiting_refusal queue.now sender.start sender.used) }
 {
     if queue.len() != sizes::QUEUE_SIZE {
-        return 2;
+        return Err(Refusal::Size);
     }
-    if !marks::is_ring_whole(queue, start, used) {
-        return 3;
+    if !marks::is_ring_whole(queue, sender.start, sender.used) {
+        return Err(Refusal::State);
     }
-    let length = packet.len();
-    if length == 0 {
-        return 4;
+    Ok(())
+}
+
+// Refusals: 2, 3, 4, 5.
+fn judge_put(queue: &[u8], sender: Sender, packet: &[u8]) -> Result<(), Refusal>
+    ensures { result ≡ judged_by (put_refusal queue.now sender.start sender.used packet.now) }
+{
+    judge_ring(queue, sender)?;
+    if packet.is_empty() || sizes::MOST_PACKET < packet.len() {
+        return Err(Refusal::PacketLength);
     }
-    if sizes::MOST_PACKET < length {
-        return 4;
+    if sizes::QUEUE_SIZE - sender.used < 2 + packet.len() {
+        return Err(Refusal::QueueRoom);
     }
-    if sizes::QUEUE_SIZE - used < 2 + length {
-        return 5;
-    }
-    0
+    Ok(())
 }
 
 // Puts a packet behind those that wait, and touches nothing else. Refusals: 2, 3, 4, 5.
 #[tactic(auto, using(crate::proofs::Putting::put_passed))]
-pub fn put(queue: &mut [u8], sender: Sender, packet: &[u8]) -> PutAnswer
+pub fn put(queue: &mut [u8], sender: Sender, packet: &[u8]) -> Result<Sender, Refusal>
     ensures { PutOutcome queue.old sender packet.now result queue.new }
 {
-    let start = sender.start;
-    let used = sender.used;
-    let number = put_refusal(queue, start, used, packet);
-    if number != 0 {
-        return PutAnswer::Refused(number);
-    }
+    judge_put(queue, sender, packet)?;
     let length = packet.len();
     let mark = marks::bytes_of(length);
-    ring::write_at(queue, start, used, &mark);
-    ring::write_at(queue, start, used + 2, packet);
-    let next = sender.next;
-    PutAnswer::Taken(Sender {
-        start,
-        used: used + 2 + length,
-        next,
+    ring::write_at(queue, sender.start, sender.used, &mark);
+    ring::write_at(queue, sender.start, sender.used + 2, packet);
+    Ok(Sender {
+        used: sender.used + 2 + length,
+        ..sender
     })
 }
 
 // The packets that wait, one that is begun among them, and how many bytes of them wait.
-#[derive(Clone, Copy)]
-pub enum WaitingAnswer {
-    Waiting { packets: usize, bytes: usize },
-    Refused(u8),
+#[derive(Clone, Copy, Debug, PartialEq, Eq)]
+pub struct Counted {
+    pub packets: usize,
+    pub bytes: usize,
 }
 
 // How much waits in the ring. Two bytes of what is used are each packet's mark. Refusals: 2, 3.
 #[tactic(auto, using(marks::proofs::Counting::used_counted))]
-pub fn waiting(queue: &[u8], sender: Sender) -> WaitingAnswer
+pub fn waiting(queue: &[u8], sender: Sender) -> Result<Counted, Refusal>
     ensures { WaitingOutcome queue.now sender result }
 {
-    let start = sender.start;
-    let used = sender.used;
-    if queue.len() != sizes::QUEUE_SIZE {
-        return WaitingAnswer::Refused(2);
-    }
-    if !marks::is_ring_whole(queue, start, used) {
-        return WaitingAnswer::Refused(3);
-    }
-    let packets = marks::packets_waiting(queue, start, used);
-    WaitingAnswer::Waiting {
+    judge_ring(queue, sender)?;
+    let packets = marks::packets_waiting(queue, sender.start, sender.used);
+    Ok(Counted {
         packets,
-        bytes: used - 2 * packets,
-    }
+        bytes: sender.used - 2 * packets,
+    })
 }

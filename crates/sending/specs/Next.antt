@@ -1,7 +1,9 @@
 -- Building the next frame (01, "Next frame"; 02, M-105), for all inputs.
-use Rattle.std.specs.Prelude.{◌≡◌, cond, ◌&&◌, List, [], ◌∷◌, ℕ, eqb, leb, length}
+use Rattle.std.specs.Prelude.{◌≡◌, cond, ◌&&◌, List, [], ◌∷◌, ℕ, eqb, leb, length, Result}
 use Rattle.basics.specs.Sizes.{area_size, frame_size, queue_size}
-use Rattle.refusals.specs.Table.{Row, ◌unless◌, first_of, by, answer_by}
+use Rattle.refusals.specs.Numbers.{answer_by}
+use Rattle.refusals.specs.Table.{Row, ◌unless◌, first_of, by}
+use Rattle.refusals.specs.declared.Refusal.{Refusal}
 use Rattle.lent.specs.Written.{written}
 use Rattle.link.specs.Link.{Queue, busy}
 use Rattle.link.specs.Store.{layout}
@@ -18,8 +20,7 @@ use Rattle.frame.specs.Frame.{frame_bytes}
 use Rattle.ring.specs.Ring.{ring_written}
 use Rattle.marks.specs.Queue.{is_ring_whole, waiting_in, start_after}
 use Rattle.sender.specs.declared.Sender.{Sender}
-use Rattle.sending.specs.declared.NextAnswer.{NextAnswer}
-use Rattle.sending.specs.declared.NextAnswer.TheVariants.{Sent, Refused}
+use Rattle.sending.specs.declared.Sent.{Sent}
 
 -- ---------------------------------------------------------------- the frame for a queue
 
@@ -60,11 +61,6 @@ next_table taps fields start used queue out =
 unfoldable pub next_refusal : ℕ → Fields → ℕ → ℕ → List ℕ → List ℕ → ℕ
 next_refusal taps fields start used queue out = first_of (next_table taps fields start used queue out)
 
--- the paper's number for each case of the answer (01, last section)
-abbrev pub next_number : NextAnswer → ℕ
-next_number (Sent sender kind) = 0
-next_number (Refused number) = number
-
 module _ (taps : ℕ) (fields : Fields) (sender : Sender) (queue out : List ℕ) where
   abbrev number : ℕ
   number = next_refusal taps fields sender.start sender.used queue out
@@ -75,7 +71,7 @@ module _ (taps : ℕ) (fields : Fields) (sender : Sender) (queue out : List ℕ)
   -- The whole outcome of `next_frame`: the answer, and the bytes of the ring and of out. The ring holds what remains from its new start on, and the frame is
   -- written to the front of out; all other bytes keep their values. What remains stood there before, but for a cut packet's new mark: `next_writes` in
   -- proofs/Ring.antt.
-  pub record NextOutcome (r : NextAnswer) (queue' out' : List ℕ) : Type 0 where
-    pub answer : r ≡ answer_by number (Sent (sender_after sender waiting) (kind_for waiting)) Refused
+  pub record NextOutcome (r : Result Sent Refusal) (queue' out' : List ℕ) : Type 0 where
+    pub answer : r ≡ answer_by number (record { sender = sender_after sender waiting; kind = kind_for waiting })
     pub bytes : queue' ≡ by number (ring_written queue (sender_after sender waiting).start 0 (layout (left_in waiting))) queue
     pub frame : out' ≡ by number (written out 0 (frame_bytes taps (header_for sender fields waiting) (area_for waiting))) out

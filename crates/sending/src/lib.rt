@@ -2,49 +2,46 @@
 #![tactic(auto)]
 
 ghost use Rattle.std.specs.Prelude.{◌≡◌, cond, eqb};
-ghost use Rattle.basics.specs.Counts.{next_txfn};
 ghost use Rattle.header.specs.declared.FrameKind.TheVariants.{Idle, Data};
+ghost use Rattle.refusals.specs.Numbers.{judged_by};
 ghost use Rattle.sending.specs.Next.{next_refusal, NextOutcome};
 
 use basics::sizes;
 use header::{Fields, FrameKind, Header};
-use sender::filling::Left;
+use refusals::Refusal;
 use sender::{Sender, filling};
 
+// The sender after a frame, and the type of the frame.
 #[derive(Clone, Copy)]
-pub enum NextAnswer {
-    Sent { sender: Sender, kind: FrameKind },
-    Refused(u8),
+pub struct Sent {
+    pub sender: Sender,
+    pub kind: FrameKind,
 }
 
-#[tactic(auto, unfolding(crate::specs::Next::next_refusal, refusals::specs::Table::first_of))]
-fn next_refusal(
+// Refusals: 1, 2, 3, 6.
+#[tactic(auto, unfolding(crate::specs::Next::next_refusal, refusals::specs::Table::first_of, refusals::specs::Table::by, refusals::specs::Numbers::refusal_of))]
+fn judge(
     taps: u32,
     fields: Fields,
-    start: usize,
-    used: usize,
+    sender: Sender,
     queue: &[u8],
     out: &[u8],
-) -> u8
-    ensures { result ≡ next_refusal taps fields start used queue.now out.now }
+) -> Result<(), Refusal>
+    ensures { result ≡ judged_by (next_refusal taps fields sender.start sender.used queue.now out.now) }
 {
     if !scrambler::are_taps(taps) {
-        return 1;
+        return Err(Refusal::Taps);
     }
-    if queue.len() != sizes::QUEUE_SIZE {
-        return 2;
+    if queue.len() != sizes::QUEUE_SIZE || out.len() < sizes::FRAME_SIZE {
+        return Err(Refusal::Size);
     }
-    if out.len() < sizes::FRAME_SIZE {
-        return 2;
+    if !marks::is_ring_whole(queue, sender.start, sender.used) {
+        return Err(Refusal::State);
     }
-    if !marks::is_ring_whole(queue, start, used) {
-        return 3;
+    if !header::coding::fields_fit(fields) {
+        return Err(Refusal::SentField);
     }
-    if header::coding::fields_fit(fields) {
-        0
-    } else {
-        6
-    }
+    Ok(())
 }
 
 // DATA where a byte waits.
@@ -58,18 +55,7 @@ fn kind_for(used: usize) -> FrameKind
     }
 }
 
-// The sender after a frame: what is left waits, and TXFN steps for every type.
-fn sender_after(sender: Sender, left: Left) -> Sender
-    ensures { (result.start ≡ left.start) × (result.used ≡ left.used) × (result.next.0 ≡ next_txfn sender.next.0) }
-{
-    Sender {
-        start: left.start,
-        used: left.used,
-        next: sender.next.next(),
-    }
-}
-
-// Builds the next frame at the front of out, and takes what it carries off the ring. Refusals: 1, 2, 3, 6.
+// Builds the next frame at the front of out, and takes what it carries off the ring. TXFN steps for every type. Refusals: 1, 2, 3, 6.
 #[tactic(auto, using(crate::proofs::Sending::next_passed))]
 pub fn next_frame(
     taps: u32,
@@ -77,25 +63,21 @@ pub fn next_frame(
     sender: Sender,
     queue: &mut [u8],
     out: &mut [u8],
-) -> NextAnswer
+) -> Result<Sent, Refusal>
     ensures { NextOutcome taps fields sender queue.old out.old result queue.new out.new }
 {
-    let start = sender.start;
-    let used = sender.used;
-    let number = next_refusal(taps, fields, start, used, queue, out);
-    if number != 0 {
-        return NextAnswer::Refused(number);
-    }
+    judge(taps, fields, sender, queue, out)?;
     let mut area = [0; sizes::AREA_SIZE];
-    let filled = filling::fill(queue, start, used, &mut area);
-    let stop = filled.stop;
-    let unsent = filled.unsent;
-    let left = filling::free_front(queue, start, used, stop, unsent);
+    let filled = filling::fill(queue, sender, &mut area);
+    let left = filling::free_front(queue, sender, filled);
     let txfn = sender.next;
-    let kind = kind_for(used);
+    let kind = kind_for(sender.used);
     frame::build(taps, Header { txfn, kind, fields }, &area, out);
-    NextAnswer::Sent {
-        sender: sender_after(sender, left),
+    Ok(Sent {
+        sender: Sender {
+            next: txfn.next(),
+            ..left
+        },
         kind,
-    }
+    })
 }
