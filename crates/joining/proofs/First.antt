@@ -12,7 +12,8 @@ use borrow.Author.Tests.{eqb-true, leb-true, leb-false, le-leb, lt-leb}
 use Rattle.link.specs.Link.{Piece, most_joined, fits_piece, fits}
 use Rattle.link.proofs.Hold.{fits_by_sum}
 use Rattle.packing.specs.declared.Record.{Record}
-use Rattle.packing.specs.declared.Found.TheVariants.{At, End, Against}
+use Rattle.std.specs.Prelude.{Some, None, Ok, Err}
+use Rattle.refusals.specs.declared.Refusal.{Refusal}
 use Rattle.packing.specs.Records.{record_at, piece_of, with_piece, read_from, read}
 use Rattle.packing.proofs.Records.{at_end, read_record, read_against}
 
@@ -57,7 +58,7 @@ part_is area found = rw add-sub_cancel_left
 -- ---- the first record: there is one, and it decides
 
 module _ (held area : List ℕ) (pieces : List Piece) (whole : read area ≡ some pieces) where
-  pub no_end : record_at area 0 ≡ End → true ≡ fits held pieces
+  pub no_end : record_at area 0 ≡ Ok None → true ≡ fits held pieces
   no_end here = absurd (omega (arith, (at_end area 0 here).0))
 
   pub no_against : record_at area 0 ≡ Against → true ≡ fits held pieces
@@ -66,7 +67,7 @@ module _ (held area : List ℕ) (pieces : List Piece) (whole : read area ≡ som
       let z : ◌≡◌ {A = ℕ} 0 1 = cc in
       absurd (omega arith)
 
-  pub by_first : (found : Record) → record_at area 0 ≡ At found
+  pub by_first : (found : Record) → record_at area 0 ≡ Ok (Some found)
       → fits_piece held found.first found.last (take (found.start + found.length - found.start) (drop found.start area)) ≡ fits held pieces
   by_first found here =
       rw (part_is area found) (go (read_from area (found.start + found.length)) (sym (from_start area pieces whole).1 ∙ read_record area 0 found here))

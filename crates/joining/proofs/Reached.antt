@@ -14,7 +14,8 @@ use Rattle.link.specs.Link.{Packet, Piece, Step, on_piece, step_then, on_pieces,
 use Rattle.link.specs.Store.{layout_packets}
 use Rattle.link.proofs.Hold.{AllFirst, Shape}
 use Rattle.packing.specs.declared.Record.{Record}
-use Rattle.packing.specs.declared.Found.TheVariants.{At, End, Against}
+use Rattle.std.specs.Prelude.{Some, None, Ok, Err}
+use Rattle.refusals.specs.declared.Refusal.{Refusal}
 use Rattle.packing.specs.Records.{record_at, piece_of, with_piece, read_from, read}
 use Rattle.packing.proofs.Records.{Lies, lies, piece_length, read_record, read_end, read_against, read_shape}
 use Rattle.joining.proofs.First.{from_start, part_is}
@@ -85,7 +86,7 @@ module _ {area : List ℕ} {before : ℕ} {hold₀ list₀ hold list : List ℕ}
   list_length low long = ap length r.list_is ∙ written_length list₀ 0 (layout_packets r.done) (omega (arith, r.room, r.listed, r.low))
 
   -- at the end of the records nothing is left to read
-  pub ends : record_at area at ≡ End → JoinOutcome area before hold₀ list₀ joined hold list
+  pub ends : record_at area at ≡ Ok None → JoinOutcome area before hold₀ list₀ joined hold list
   ends here pieces e =
       let are : r.all ≡ pieces = let f : some r.all ≡ some pieces = sym r.whole ∙ e in cc in
       let held = take joined.held hold in
@@ -107,7 +108,7 @@ module _ {area : List ℕ} {before : ℕ} {hold₀ list₀ hold list : List ℕ}
       let z : ◌≡◌ {A = ℕ} 0 1 = cc in
       omega arith
 
-  module _ (found : Record) (here : record_at area at ≡ At found) where
+  module _ (found : Record) (here : record_at area at ≡ Ok (Some found)) where
     lie : Lies area at found
     lie = lies area at found here
 

@@ -5,6 +5,8 @@ ghost use Rattle.link.specs.Link.{on_piece};
 ghost use Rattle.link.specs.Store.{layout_packets};
 ghost use Rattle.joining.specs.Growing.{grown, Ready, Growable, StepOutcome};
 
+use packing::Piece;
+
 // What is held after a frame, how many packets it completed, and how many bytes of the list they take.
 #[derive(Clone, Copy)]
 pub struct Joined {
@@ -13,58 +15,40 @@ pub struct Joined {
     pub listed: usize,
 }
 
-// Joins one record: "first" drops a held part; without it, and with nothing held, the record is skipped.
-pub fn join_record(
-    first: bool,
-    last: bool,
-    bytes: &[u8],
-    before: Joined,
-    hold: &mut [u8],
-    list: &mut [u8],
-) -> Joined
-    requires { Ready first last bytes.now before hold.old list.old }
-    ensures { StepOutcome (on_piece (take before.held hold.old) first last bytes.now)
+// Joins one piece: "first" drops a held part; without it, and with nothing held, the piece is skipped.
+pub fn join_piece(piece: Piece, before: Joined, hold: &mut [u8], list: &mut [u8]) -> Joined
+    requires { Ready piece.first piece.last piece.bytes.now before hold.old list.old }
+    ensures { StepOutcome (on_piece (take before.held hold.old) piece.first piece.last piece.entry.bytes.now)
         before hold.old list.old result hold.new list.new }
 {
-    let held = before.held;
-    if first {
-        return grow(0, last, bytes, before, hold, list);
+    if piece.first {
+        return grow(0, piece, before, hold, list);
     }
-    if held == 0 {
+    if before.held == 0 {
         return before;
     }
-    grow(held, last, bytes, before, hold, list)
+    grow(before.held, piece, before, hold, list)
 }
 
-// Joins a record to the first `part` bytes of the hold: a whole packet goes to the list, an unfinished one to the hold.
-fn grow(
-    part: usize,
-    last: bool,
-    bytes: &[u8],
-    before: Joined,
-    hold: &mut [u8],
-    list: &mut [u8],
-) -> Joined
-    requires { Growable part last bytes.now before hold.old list.old }
-    ensures { StepOutcome (grown (take part hold.old) last bytes.now)
+// Joins a piece to the first `part` bytes of the hold: a whole packet goes to the list, an unfinished one to the hold.
+fn grow(part: usize, piece: Piece, before: Joined, hold: &mut [u8], list: &mut [u8]) -> Joined
+    requires { Growable part piece.last piece.bytes.now before hold.old list.old }
+    ensures { StepOutcome (grown (take part hold.old) piece.last piece.bytes.now)
         before hold.old list.old result hold.new list.new }
 {
-    let packets = before.packets;
-    let listed = before.listed;
-    let length = part + bytes.len();
-    if last {
-        write_entry(list, listed, &hold[..part], bytes);
+    let length = part + piece.bytes.len();
+    if piece.last {
+        write_entry(list, before.listed, &hold[..part], piece.bytes);
         return Joined {
             held: 0,
-            packets: packets + 1,
-            listed: listed + 2 + length,
+            packets: before.packets + 1,
+            listed: before.listed + 2 + length,
         };
     }
-    lent::write_at(hold, part, bytes);
+    lent::write_at(hold, part, piece.bytes);
     Joined {
         held: length,
-        packets,
-        listed,
+        ..before
     }
 }
 

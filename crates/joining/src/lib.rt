@@ -7,42 +7,21 @@ pub mod growing;
 ghost use Rattle.joining.specs.Joining.{Joinable, JoinOutcome};
 
 use growing::Joined;
-use packing::Found;
 
 // Joins the records of a DATA area that is not refused, in order; `before` bytes of the hold are held.
 pub fn join(area: &[u8], before: usize, hold: &mut [u8], list: &mut [u8]) -> Joined
     requires { Joinable area.now before hold.old list.old }
     ensures { JoinOutcome area.now before hold.old list.old result hold.new list.new }
 {
-    let mut at: usize = 0;
+    let mut at = 0;
     let mut joined = Joined {
         held: before,
         packets: 0,
         listed: 0,
     };
-    loop {
-        let found = packing::record_at(area, at);
-        match found {
-            Found::At(record) => {
-                let start = record.start;
-                let end = start + record.length;
-                let next = growing::join_record(
-                    record.first,
-                    record.last,
-                    &area[start..end],
-                    joined,
-                    hold,
-                    list,
-                );
-                joined = next;
-                at = end;
-            }
-            Found::End => {
-                return joined;
-            }
-            Found::Against => {
-                return joined;
-            }
-        }
+    while let Ok(Some(record)) = packing::record_at(area, at) {
+        joined = growing::join_piece(record.piece(area), joined, hold, list);
+        at = record.start + record.length;
     }
+    joined
 }

@@ -16,7 +16,7 @@ use Rattle.link.specs.Link.{Piece}
 use Rattle.link.specs.Parsing.{mark_at}
 use Rattle.link.proofs.Store.{mark_back}
 use Rattle.packing.specs.declared.Record.{Record}
-use Rattle.packing.specs.declared.Found.TheVariants.{At}
+use Rattle.std.specs.Prelude.{Some, Ok}
 use Rattle.packing.specs.Rules.{shortest, record_mark, record_bytes, records_bytes}
 use Rattle.marks.specs.Mark.{length_in, may_begin, may_end, is_mark}
 use Rattle.packing.specs.Records.{placed, record_at, piece_of, read_from}
@@ -75,7 +75,7 @@ module _ (p : Piece) (area behind : List ℕ) (at room : ℕ) (h : at + room ≡
   mark_here : mark_at (drop at area) ≡ record_mark p
   mark_here = ap mark_at e ∙ mark_back (record_mark p) (p.bytes ++ behind) (mark_fits (length p.bytes) s.high p.first p.last)
 
-  record_here : record_at area at ≡ At (placed at (record_mark p))
+  record_here : record_at area at ≡ Ok (Some (placed at (record_mark p)))
   unfolding record_at
   record_here =
       let left : length (drop at area) ≡ room = simp length-drop (omega arith) in
@@ -125,7 +125,7 @@ mark_bound [] b = omega arith
 mark_bound (x ∷ []) b = omega (arith, b.0)
 mark_bound (x ∷ y ∷ l) b = omega (arith, b.0, b.1.0)
 
-module _ (area : List ℕ) (at room : ℕ) (b : Bytes area) (h : at + room ≡ length area) (found : Record) (here : record_at area at ≡ At found) where
+module _ (area : List ℕ) (at room : ℕ) (b : Bytes area) (h : at + room ≡ length area) (found : Record) (here : record_at area at ≡ Ok (Some found)) where
   l : records.Lies area at found
   l = records.lies area at found here
 

@@ -7,6 +7,7 @@ use Prim.Native.Nat.{ℕ, zero, suc, ◌+◌, ◌-◌, ◌*◌, ◌/◌, ◌%◌
 use native.Mathlib.Nat.{mod-lt}
 use native.Mathlib.Omega.{arith}
 use lib.ListN.{length, get_or, drop, length-take, length-drop}
+use Rattle.std.specs.Prelude.{Some, None, Ok, Err}
 use lib.Dec.{lit<, leb, ltb, eqb}
 use borrow.Author.Tests.{leb-true, eqb-true, eqb-false, lt-ltb, le-ltb, ne_eqb, eq-eqb}
 use Rattle.basics.specs.Lists.{zeros, is_some}
@@ -15,8 +16,9 @@ use Rattle.link.specs.Link.{Piece}
 use Rattle.link.specs.Parsing.{mark_at}
 use Rattle.link.proofs.Hold.{AllFirst, Shape}
 use Rattle.packing.specs.declared.Record.{Record}
-use Rattle.packing.specs.declared.Found.{Found}
-use Rattle.packing.specs.declared.Found.TheVariants.{At, End, Against}
+use Rattle.refusals.specs.declared.Refusal.{Refusal}
+use Rattle.refusals.specs.declared.Refusal.TheVariants.{Packing}
+use Rattle.packing.specs.Found.{Found}
 use Rattle.packing.specs.Rules.{shortest}
 use Rattle.marks.specs.Mark.{is_first, is_last, length_in, may_begin, may_end, is_mark}
 use Rattle.packing.specs.Records.{all_zero, end_at, placed, record_at, piece_of, with_piece, by_found, read_within, read_from, read}
@@ -63,21 +65,21 @@ marked at room mark e =
 
 -- ---- what stands at a position
 
-not_at : (area : List ℕ) (at : ℕ) (found : Record) → end_at area at ≡ At found → ⊥
+not_at : (area : List ℕ) (at : ℕ) (found : Record) → end_at area at ≡ Ok (Some found) → ⊥
 unfolding end_at
 not_at area at found = go (eqb at 0) (all_zero (drop at area))
   where
-    go : (a b : Bool) → cond a Against (cond b End Against) ≡ At found → ⊥
+    go : (a b : Bool) → ◌≡◌ {A = Found} (cond a (Err Packing) (cond b (Ok None) (Err Packing))) (Ok (Some found)) → ⊥
     go true b e = let z : ◌≡◌ {A = ℕ} 0 1 = cc in omega arith
     go false true e = let z : ◌≡◌ {A = ℕ} 0 1 = cc in omega arith
     go false false e = let z : ◌≡◌ {A = ℕ} 0 1 = cc in omega arith
 
-pub at_mark : (area : List ℕ) (at : ℕ) (found : Record) → record_at area at ≡ At found
+pub at_mark : (area : List ℕ) (at : ℕ) (found : Record) → record_at area at ≡ Ok (Some found)
     → (is_mark at (length (drop at area)) (mark_at (drop at area)) ≡ true) × (placed at (mark_at (drop at area)) ≡ found)
 unfolding record_at
 at_mark area at found = go (ltb (length (drop at area)) shortest) (eqb (mark_at (drop at area)) 0) (is_mark at (length (drop at area)) (mark_at (drop at area)))
   where
-    go : (a b c : Bool) → cond a (end_at area at) (cond b (end_at area at) (cond c (At (placed at (mark_at (drop at area)))) Against)) ≡ At found
+    go : (a b c : Bool) → cond a (end_at area at) (cond b (end_at area at) (cond c (Ok (Some (placed at (mark_at (drop at area))))) (Err Packing))) ≡ Ok (Some found)
         → (c ≡ true) × (placed at (mark_at (drop at area)) ≡ found)
     go true b c e = absurd (not_at area at found e)
     go false true c e = absurd (not_at area at found e)
@@ -93,7 +95,7 @@ pub record Lies (area : List ℕ) (at : ℕ) (found : Record) : Type 0 where
   pub first : found.first ≡ false → at ≡ 0
   pub last : found.last ≡ false → found.start + found.length ≡ length area
 
-pub lies : (area : List ℕ) (at : ℕ) (found : Record) → record_at area at ≡ At found → Lies area at found
+pub lies : (area : List ℕ) (at : ℕ) (found : Record) → record_at area at ≡ Ok (Some found) → Lies area at found
 lies area at found e =
     let k = at_mark area at found e in
     let mark = mark_at (drop at area) in
@@ -109,20 +111,20 @@ lies area at found e =
     })
 
 -- the records end where one stands before and all bytes are 0
-pub at_end : (area : List ℕ) (at : ℕ) → record_at area at ≡ End → (0 < at) × (drop at area ≡ zeros (length (drop at area)))
+pub at_end : (area : List ℕ) (at : ℕ) → record_at area at ≡ Ok None → (0 < at) × (drop at area ≡ zeros (length (drop at area)))
 unfolding record_at end_at
 at_end area at e =
     let f = go (ltb (length (drop at area)) shortest) (eqb (mark_at (drop at area)) 0) (is_mark at (length (drop at area)) (mark_at (drop at area))) e in
     let g = ended (eqb at 0) (all_zero (drop at area)) f in
     (positive (eqb-false at 0 g.0), all_zeros (drop at area) g.1)
   where
-    go : (a b c : Bool) → cond a (end_at area at) (cond b (end_at area at) (cond c (At (placed at (mark_at (drop at area)))) Against)) ≡ End → end_at area at ≡ End
+    go : (a b c : Bool) → cond a (end_at area at) (cond b (end_at area at) (cond c (Ok (Some (placed at (mark_at (drop at area))))) (Err Packing))) ≡ Ok None → end_at area at ≡ Ok None
     go true b c e = e
     go false true c e = e
     go false false true e = let z : ◌≡◌ {A = ℕ} 0 1 = cc in absurd (omega arith)
     go false false false e = let z : ◌≡◌ {A = ℕ} 0 1 = cc in absurd (omega arith)
 
-    ended : (a b : Bool) → cond a Against (cond b End Against) ≡ End → (a ≡ false) × (b ≡ true)
+    ended : (a b : Bool) → ◌≡◌ {A = Found} (cond a (Err Packing) (cond b (Ok None) (Err Packing))) (Ok None) → (a ≡ false) × (b ≡ true)
     ended true b e = let z : ◌≡◌ {A = ℕ} 0 1 = cc in absurd (omega arith)
     ended false true e = (refl, refl)
     ended false false e = let z : ◌≡◌ {A = ℕ} 0 1 = cc in absurd (omega arith)
@@ -130,15 +132,15 @@ at_end area at e =
     positive : (at ≡ 0 → ⊥) → 0 < at
     positive h = omega (arith, h)
 
-pub end_at_lem : (area : List ℕ) (at n : ℕ) → 0 < at → drop at area ≡ zeros n → record_at area at ≡ End
+pub end_at_lem : (area : List ℕ) (at n : ℕ) → 0 < at → drop at area ≡ zeros n → record_at area at ≡ Ok None
 unfolding record_at end_at
 end_at_lem area at n h e =
     let mark : mark_at (drop at area) ≡ 0 = ap mark_at e ∙ zeros_mark n in
     let all : all_zero (drop at area) ≡ true = ap all_zero e ∙ zeros_all n in
-    let end : end_at area at ≡ End = rw (ne_eqb at 0 (λ z. omega arith), all) in
+    let end : end_at area at ≡ Ok None = rw (ne_eqb at 0 (λ z. omega arith), all) in
     rw (mark, end) (both (ltb (length (drop at area)) shortest))
   where
-    both : (a : Bool) → cond a End End ≡ End
+    both : (a : Bool) → ◌≡◌ {A = Found} (cond a (Ok None) (Ok None)) (Ok None)
     both true = refl
     both false = refl
 
@@ -152,7 +154,7 @@ module _ (area : List ℕ) (at mark : ℕ) (e : mark ≡ get_or area at 0 * 256 
   unfolding record_at
   at_zero z = rw (mark_from_lem area at, ← e, le-ltb (length (drop at area)) shortest (simp length-drop (omega arith)), eq-eqb mark 0 z)
 
-  pub at_other : (mark ≡ 0 → ⊥) → record_at area at ≡ cond (is_mark at (length area - at) mark) (At (placed at mark)) Against
+  pub at_other : (mark ≡ 0 → ⊥) → record_at area at ≡ cond (is_mark at (length area - at) mark) (Ok (Some (placed at mark))) (Err Packing)
   unfolding record_at
   at_other n = rw (mark_from_lem area at, ← e, le-ltb (length (drop at area)) shortest (simp length-drop (omega arith)), ne_eqb mark 0 n, length-drop)
 
@@ -167,32 +169,32 @@ enough (suc k) (suc m) area at h j = go (record_at area at) refl (λ next. enoug
     go : (f : Found) → record_at area at ≡ f
         → ((next : ℕ) → length area - next < k → length area - next < m → read_within k area next ≡ read_within m area next)
         → by_found area (read_within k area) f ≡ by_found area (read_within m area) f
-    go (At found) e again =
+    go (Ok (Some found)) e again =
         let l = lies area at found e in
         ap (with_piece (piece_of area found)) (again (found.start + found.length) (omega arith) (omega arith))
-    go End e again = refl
-    go Against e again = refl
+    go (Ok None) e again = refl
+    go (Err refusal) e again = refl
 
 pub read_step : (area : List ℕ) (at : ℕ) → read_from area at ≡ by_found area (read_from area) (record_at area at)
 unfolding read_from
 read_step area at = go (record_at area at) refl
   where
     go : (f : Found) → record_at area at ≡ f → by_found area (read_within (length area) area) f ≡ by_found area (read_from area) f
-    go (At found) e =
+    go (Ok (Some found)) e =
         let l = lies area at found e in
         ap (with_piece (piece_of area found)) (enough (length area) (suc (length area)) area (found.start + found.length) (omega arith) (omega arith))
-    go End e = refl
-    go Against e = refl
+    go (Ok None) e = refl
+    go (Err refusal) e = refl
 
-pub read_record : (area : List ℕ) (at : ℕ) (found : Record) → record_at area at ≡ At found
+pub read_record : (area : List ℕ) (at : ℕ) (found : Record) → record_at area at ≡ Ok (Some found)
     → read_from area at ≡ with_piece (piece_of area found) (read_from area (found.start + found.length))
 read_record area at found e = read_step area at ∙ ap (by_found area (read_from area)) e
 
-pub read_end : (area : List ℕ) (at : ℕ) → record_at area at ≡ End → read_from area at ≡ some []
+pub read_end : (area : List ℕ) (at : ℕ) → record_at area at ≡ Ok None → read_from area at ≡ some []
 read_end area at e = read_step area at ∙ ap (by_found area (read_from area)) e
 
-pub read_against : (area : List ℕ) (at : ℕ) → record_at area at ≡ Against → read_from area at ≡ none
-read_against area at e = read_step area at ∙ ap (by_found area (read_from area)) e
+pub read_against : (area : List ℕ) (at : ℕ) (refusal : Refusal) → record_at area at ≡ Err refusal → read_from area at ≡ none
+read_against area at refusal e = read_step area at ∙ ap (by_found area (read_from area)) e
 
 -- all of an area
 pub read_whole : (area : List ℕ) → length area ≡ 1908 → read area ≡ read_from area 0
@@ -208,7 +210,7 @@ some_piece : (p : Piece) (o : Option (List Piece)) → is_some (with_piece p o) 
 some_piece p none = refl
 some_piece p (some ps) = refl
 
-pub some_record : (area : List ℕ) (at : ℕ) (found : Record) → record_at area at ≡ At found
+pub some_record : (area : List ℕ) (at : ℕ) (found : Record) → record_at area at ≡ Ok (Some found)
     → is_some (read_from area at) ≡ is_some (read_from area (found.start + found.length))
 some_record area at found e =
     ap is_some (read_record area at found e) ∙ some_piece (piece_of area found) (read_from area (found.start + found.length))
@@ -216,22 +218,22 @@ some_record area at found e =
 -- ---- what was read
 
 -- no piece, at the records' end
-pub read_nothing : (area : List ℕ) (at : ℕ) → read_from area at ≡ some [] → record_at area at ≡ End
+pub read_nothing : (area : List ℕ) (at : ℕ) → read_from area at ≡ some [] → record_at area at ≡ Ok None
 read_nothing area at e = go (record_at area at) refl (sym (read_step area at) ∙ e)
   where
     no_piece : (p : Piece) (o : Option (List Piece)) → with_piece p o ≡ some [] → ⊥
     no_piece p none e = let z : ◌≡◌ {A = ℕ} 0 1 = cc in omega arith
     no_piece p (some ps) e = let z : ◌≡◌ {A = ℕ} 0 1 = cc in omega arith
 
-    go : (f : Found) → record_at area at ≡ f → by_found area (read_from area) f ≡ some [] → record_at area at ≡ End
-    go (At found) f e = absurd (no_piece (piece_of area found) (read_from area (found.start + found.length)) e)
-    go End f e = f
-    go Against f e = let z : ◌≡◌ {A = ℕ} 0 1 = cc in absurd (omega arith)
+    go : (f : Found) → record_at area at ≡ f → by_found area (read_from area) f ≡ some [] → record_at area at ≡ Ok None
+    go (Ok (Some found)) f e = absurd (no_piece (piece_of area found) (read_from area (found.start + found.length)) e)
+    go (Ok None) f e = f
+    go (Err refusal) f e = let z : ◌≡◌ {A = ℕ} 0 1 = cc in absurd (omega arith)
 
 -- a first piece, and those behind it
 pub record Begins (area : List ℕ) (at : ℕ) (piece : Piece) (pieces : List Piece) : Type 0 where
   pub found : Record
-  pub here : record_at area at ≡ At found
+  pub here : record_at area at ≡ Ok (Some found)
   pub is : piece ≡ piece_of area found
   pub behind : read_from area (found.start + found.length) ≡ some pieces
 
@@ -243,11 +245,11 @@ read_piece area at piece pieces e = go (record_at area at) refl (sym (read_step 
     parts p (some ps) e = (cc, cc)
 
     go : (f : Found) → record_at area at ≡ f → by_found area (read_from area) f ≡ some (piece ∷ pieces) → Begins area at piece pieces
-    go (At found) f e =
+    go (Ok (Some found)) f e =
         let k = parts (piece_of area found) (read_from area (found.start + found.length)) e in
         record { found = found; here = f; is = k.0; behind = k.1 }
-    go End f e = let z : ◌≡◌ {A = ℕ} 0 1 = cc in absurd (omega arith)
-    go Against f e = let z : ◌≡◌ {A = ℕ} 0 1 = cc in absurd (omega arith)
+    go (Ok None) f e = let z : ◌≡◌ {A = ℕ} 0 1 = cc in absurd (omega arith)
+    go (Err refusal) f e = let z : ◌≡◌ {A = ℕ} 0 1 = cc in absurd (omega arith)
 
 -- its bytes are as many as its mark says
 pub piece_length : (area : List ℕ) (at : ℕ) (found : Record) → Lies area at found → length (piece_of area found).bytes ≡ found.length

@@ -1,3 +1,4 @@
 pub mod Rules
 pub mod Filling
+pub mod Found
 pub mod Records

@@ -1,15 +1,15 @@
 -- What the code does: it reads an area record by record, from position 0 on. Reading accepts exactly the areas that `Allowed` allows, with the pieces that it
 -- sees in them (`area_exactly` of demand 2), so whoever believes `Allowed` need not believe anything here.
-use Rattle.std.specs.Prelude.{Bool, true, cond, ◌&&◌, List, [], ◌∷◌, ℕ, zero, suc, ◌+◌, length, take, drop, ltb, eqb}
+use Rattle.std.specs.Prelude.{Bool, true, cond, ◌&&◌, List, [], ◌∷◌, ℕ, zero, suc, ◌+◌, length, take, drop, ltb, eqb, Some, None, Ok, Err}
 use Rattle.std.proofs.Math.Option.{Option, none, some}
 use Rattle.basics.specs.Sizes.{area_size}
 use Rattle.link.specs.Link.{Piece}
 use Rattle.link.specs.Parsing.{mark_at}
 use Rattle.marks.specs.Mark.{is_first, is_last, length_in, is_mark}
+use Rattle.refusals.specs.declared.Refusal.TheVariants.{Packing}
+use Rattle.packing.specs.Found.{Found}
 use Rattle.packing.specs.Rules.{shortest}
 use Rattle.packing.specs.declared.Record.{Record}
-use Rattle.packing.specs.declared.Found.{Found}
-use Rattle.packing.specs.declared.Found.TheVariants.{At, End, Against}
 
 -- ---------------------------------------------------------------- what stands at a position
 
@@ -19,7 +19,7 @@ all_zero (byte ∷ bytes) = eqb byte 0 && all_zero bytes
 
 -- The records end here: at least one stands before, and all bytes from here on are 0.
 unfoldable pub end_at : List ℕ → ℕ → Found
-end_at area at = cond (eqb at 0) Against (cond (all_zero (drop at area)) End Against)
+end_at area at = cond (eqb at 0) (Err Packing) (cond (all_zero (drop at area)) (Ok None) (Err Packing))
 
 abbrev pub placed : ℕ → ℕ → Record
 placed at mark = record { first = is_first mark; last = is_last mark; start = at + 2; length = length_in mark }
@@ -29,7 +29,7 @@ unfoldable pub record_at : List ℕ → ℕ → Found
 record_at area at =
     let room = length (drop at area) in
     let mark = mark_at (drop at area) in
-    cond (ltb room shortest) (end_at area at) (cond (eqb mark 0) (end_at area at) (cond (is_mark at room mark) (At (placed at mark)) Against))
+    cond (ltb room shortest) (end_at area at) (cond (eqb mark 0) (end_at area at) (cond (is_mark at room mark) (Ok (Some (placed at mark))) (Err Packing)))
 
 -- ---------------------------------------------------------------- all pieces; none: refusal 14
 
@@ -42,9 +42,9 @@ with_piece piece (some pieces) = some (piece ∷ pieces)
 
 -- What is found, and how reading goes on behind a record.
 abbrev pub by_found : List ℕ → (ℕ → Option (List Piece)) → Found → Option (List Piece)
-by_found area further (At found) = with_piece (piece_of area found) (further (found.start + found.length))
-by_found area further End = some []
-by_found area further Against = none
+by_found area further (Ok (Some found)) = with_piece (piece_of area found) (further (found.start + found.length))
+by_found area further (Ok None) = some []
+by_found area further (Err refusal) = none
 
 -- from a position on, if there are fewer than k records
 abbrev pub read_within : ℕ → List ℕ → ℕ → Option (List Piece)

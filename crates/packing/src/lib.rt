@@ -2,12 +2,14 @@
 // `fill`, which crate sender writes (`filling`).
 #![tactic(auto)]
 
-ghost use Rattle.std.specs.Prelude.{◌≡◌, ◌+◌, ◌<◌, length, drop};
+ghost use Rattle.std.specs.Prelude.{◌≡◌, ◌+◌, ◌<◌, ◌≤◌, length, take, drop, is_ok};
 ghost use Rattle.basics.specs.Lists.{is_some};
+ghost use Rattle.basics.specs.Sizes.{area_size};
 ghost use Rattle.packing.specs.Records.{all_zero, end_at, record_at, read};
 
 use basics::sizes;
 use marks::records;
+use refusals::Refusal;
 
 // A record: the marks of its piece, and where its bytes stand in the area.
 #[derive(Clone, Copy)]
@@ -18,90 +20,86 @@ pub struct Record {
     pub length: usize,
 }
 
-// What stands at a position of an area: a record, the records' end, or something against the rules.
+// A piece of a packet, as a record of an area carries it.
 #[derive(Clone, Copy)]
-pub enum Found {
-    At(Record),
-    End,
-    Against,
+pub struct Piece<'a> {
+    pub first: bool,
+    pub last: bool,
+    pub bytes: &'a [u8],
+}
+
+impl Record {
+    // The piece that stands in the area.
+    pub fn piece(self, area: &[u8]) -> Piece<'_>
+        requires { self.start + self.length ≤ length area.now }
+        ensures first { result.first ≡ self.first }
+        ensures last { result.last ≡ self.last }
+        ensures bytes { result.bytes.now ≡ take self.length (drop self.start area.now) }
+    {
+        Piece {
+            first: self.first,
+            last: self.last,
+            bytes: &area[self.start..self.start + self.length],
+        }
+    }
 }
 
 // Whether the records of an area are allowed (refusal 14 where not).
 pub fn is_allowed(area: &[u8]) -> bool
     ensures { result ≡ is_some (read area.now) }
 {
-    if area.len() != sizes::AREA_SIZE {
-        return false;
-    }
-    let mut at: usize = 0;
-    loop {
-        let found = record_at(area, at);
-        match found {
-            Found::At(record) => {
-                at = record.start + record.length;
-            }
-            Found::End => {
-                return true;
-            }
-            Found::Against => {
-                return false;
-            }
-        }
-    }
+    area.len() == sizes::AREA_SIZE && read_through(area).is_ok()
 }
 
-// What stands at a position. The receiver's loop goes on at start + length.
-pub fn record_at(area: &[u8], at: usize) -> Found
+// Goes from record to record of an area, up to their end or to what is against the rules.
+fn read_through(area: &[u8]) -> Result<(), Refusal>
+    requires { length area.now ≡ area_size }
+    ensures { is_ok result ≡ is_some (read area.now) }
+{
+    let mut at = 0;
+    while let Some(record) = record_at(area, at)? {
+        at = record.start + record.length;
+    }
+    Ok(())
+}
+
+// What stands at a position: a record, or none where the records end. The next record's position is start + length. Refusal: 14.
+pub fn record_at(area: &[u8], at: usize) -> Result<Option<Record>, Refusal>
     ensures { result ≡ record_at area.now at }
 {
     let total = area.len();
-    if total < 3 {
-        return end_at(area, at);
-    }
-    if total - 3 < at {
+    if total < 3 || total - 3 < at {
         return end_at(area, at);
     }
     let mark = marks::mark_at(area, at);
-    let length = mark % 2048;
     if mark == 0 {
         return end_at(area, at);
     }
-    if records::is_mark(at, total - at, mark) {
-        let start = at + 2;
-        return Found::At(Record {
-            first: mark / sizes::FIRST_BIT % 2 == 1,
-            last: mark / sizes::LAST_BIT % 2 == 1,
-            start,
-            length,
-        });
+    if !records::is_mark(at, total - at, mark) {
+        return Err(Refusal::Packing);
     }
-    Found::Against
+    Ok(Some(Record {
+        first: mark / sizes::FIRST_BIT % 2 == 1,
+        last: mark / sizes::LAST_BIT % 2 == 1,
+        start: at + 2,
+        length: mark % 2048,
+    }))
 }
 
 // Where the records end, all bytes are 0, and a record stands before.
 #[tactic(auto, unfolding(crate::specs::Records::end_at))]
-fn end_at(area: &[u8], at: usize) -> Found
+fn end_at(area: &[u8], at: usize) -> Result<Option<Record>, Refusal>
     ensures { result ≡ end_at area.now at }
 {
-    if at == 0 {
-        return Found::Against;
+    if at == 0 || !are_zeros(area, at) {
+        return Err(Refusal::Packing);
     }
-    if are_zeros(area, at) {
-        Found::End
-    } else {
-        Found::Against
-    }
+    Ok(None)
 }
 
+// A position behind the area has no bytes.
 fn are_zeros(area: &[u8], at: usize) -> bool
     ensures { result ≡ all_zero (drop at area.now) }
 {
-    let mut i = at;
-    while i < area.len() {
-        if area[i] != 0 {
-            return false;
-        }
-        i = i + 1;
-    }
-    true
+    area.iter().skip(at).all(|byte| *byte == 0)
 }

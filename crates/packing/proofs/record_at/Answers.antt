@@ -2,7 +2,9 @@
 use mathlib.Core.Path.{sym, ap, ◌∙◌}
 use mathlib.Core.Bool.{cond}
 use native.Mathlib.Omega.{arith}
-use Rattle.packing.specs.declared.Found.TheVariants.{At, Against}
+use Rattle.std.specs.Prelude.{Some, Ok, Err}
+use Rattle.refusals.specs.declared.Refusal.TheVariants.{Packing}
+use Rattle.packing.specs.Found.{Found}
 use Rattle.packing.specs.Records.{placed}
 use Rattle.packing.proofs.Records.{at_few, at_zero, at_other}
 use Rattle.packing.proofs.record_at.Goals as goal
@@ -28,11 +30,11 @@ returns-then-is_mark c =
     let args = c.args in
     let mark = c.mark_at-mark in
     sym (at_other args.area.now args.at mark.result mark.ensures (omega arith) c.if-mark-eq0.false
-    ∙ ap (λ test. cond test (At (placed args.at mark.result)) Against) (sym c.is_mark.ensures ∙ c.if-is_mark.true))
+    ∙ ap (λ test. cond {A = Found} test (Ok (Some (placed args.at mark.result))) (Err Packing)) (sym c.is_mark.ensures ∙ c.if-is_mark.true))
 
 pub returns : goal.returns
 returns c =
     let args = c.args in
     let mark = c.mark_at-mark in
     sym (at_other args.area.now args.at mark.result mark.ensures (omega arith) c.if-mark-eq0.false
-    ∙ ap (λ test. cond test (At (placed args.at mark.result)) Against) (sym c.is_mark.ensures ∙ c.if-is_mark.false))
+    ∙ ap (λ test. cond {A = Found} test (Ok (Some (placed args.at mark.result))) (Err Packing)) (sym c.is_mark.ensures ∙ c.if-is_mark.false))
