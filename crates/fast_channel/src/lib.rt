@@ -8,14 +8,36 @@ ghost use Rattle.fast_channel.specs.FastChannel.{lock_number, with_lock, lock_of
 ghost use Rattle.fast_channel.specs.Level.{LevelOutcome};
 
 // Frame synchronization over the time that a message reports on: lost at least once, or held.
-#[derive(Clone, Copy)]
+#[derive(Clone, Copy, Debug, PartialEq, Eq)]
 pub enum Lock {
-    NotLocked,
-    Locked,
+    NotLocked = 0,
+    Locked = 1,
+}
+
+// The two bits of a payload.
+impl From<Lock> for u16 {
+    ghost from_gives = { λ lock number. (number ≡ lock_number lock) × (number ≤ 1) };
+
+    fn from(lock: Lock) -> u16 {
+        lock as u16
+    }
+}
+
+// A number above 1 is taken for 1.
+impl From<u16> for Lock {
+    ghost from_gives = { λ number lock. lock ≡ lock_of number };
+
+    fn from(number: u16) -> Lock {
+        if number == 0 {
+            Lock::NotLocked
+        } else {
+            Lock::Locked
+        }
+    }
 }
 
 // One message of the fast channel, out of nine kinds, with its opcode and the name that Table 2-12 gives it.
-#[derive(Clone, Copy)]
+#[derive(Clone, Copy, Debug, PartialEq, Eq)]
 pub enum FastChannel {
     // 0, LAPC_CRC_ERROR_REPORT: frames with a CRC error in the last second.
     CrcErrors(u16),
@@ -37,49 +59,96 @@ pub enum FastChannel {
     Absent,
 }
 
-pub fn lock_number(lock: Lock) -> u16
-    ensures value { result ≡ lock_number lock }
-    ensures small { result ≤ 1 }
-{
-    match lock {
-        Lock::NotLocked => 0,
-        Lock::Locked => 1,
+impl FastChannel {
+    pub fn opcode(self) -> u8
+        ensures { result ≡ opcode_of self }
+    {
+        match self {
+            FastChannel::CrcErrors(_) => 0,
+            FastChannel::ReceivedPower { .. } => 1,
+            FastChannel::PowerStatistics { .. } => 2,
+            FastChannel::SyncLosses { .. } => 3,
+            FastChannel::PowerRange { .. } => 4,
+            FastChannel::Version { .. } => 5,
+            FastChannel::CorrectedFrames(_) => 6,
+            FastChannel::Reserved(opcode) => opcode,
+            FastChannel::Absent => 15,
+        }
     }
-}
 
-pub fn lock_of(number: u16) -> Lock
-    ensures { result ≡ lock_of number }
-{
-    if number == 0 {
-        Lock::NotLocked
-    } else {
-        Lock::Locked
+    pub fn payload(self) -> u16
+        ensures { result ≡ payload_of self }
+    {
+        match self {
+            FastChannel::CrcErrors(errors) => errors,
+            FastChannel::ReceivedPower { power, lock } => with_lock(power, lock),
+            FastChannel::PowerStatistics { mean, deviation } => byte_pair(mean, deviation),
+            FastChannel::SyncLosses { losses, lock } => with_lock(losses, lock),
+            FastChannel::PowerRange { least, greatest } => byte_pair(least, greatest),
+            FastChannel::Version { major, minor, patch } => version_number(major, minor, patch),
+            FastChannel::CorrectedFrames(frames) => frames,
+            FastChannel::Reserved(_) => 0,
+            FastChannel::Absent => 65535,
+        }
     }
-}
 
-pub fn opcode(message: FastChannel) -> u8
-    ensures { result ≡ opcode_of message }
-{
-    match message {
-        FastChannel::CrcErrors(_) => 0,
-        FastChannel::ReceivedPower { power: _, lock: _ } => 1,
-        FastChannel::PowerStatistics {
-            mean: _,
-            deviation: _,
-        } => 2,
-        FastChannel::SyncLosses { losses: _, lock: _ } => 3,
-        FastChannel::PowerRange {
-            least: _,
-            greatest: _,
-        } => 4,
-        FastChannel::Version {
-            major: _,
-            minor: _,
-            patch: _,
-        } => 5,
-        FastChannel::CorrectedFrames(_) => 6,
-        FastChannel::Reserved(number) => number,
-        FastChannel::Absent => 15,
+    // No number of the message is too large for its bits, and a reserved opcode is one of 7 to 14.
+    pub fn fits(self) -> bool
+        ensures { result ≡ message_fits self }
+    {
+        match self {
+            FastChannel::ReceivedPower { power: number, .. } | FastChannel::SyncLosses { losses: number, .. } => number < 16384,
+            FastChannel::Version { major, minor, patch } => major < 32 && minor < 32 && patch < 64,
+            FastChannel::Reserved(opcode) => 7 <= opcode && opcode <= 14,
+            _ => true,
+        }
+    }
+
+    // The message that a receiver reads.
+    #[tactic(auto, unfolding(crate::specs::FastChannel::message_of))]
+    pub fn received(opcode: u8, payload: u16) -> FastChannel
+        ensures { result ≡ message_of opcode payload }
+    {
+        match opcode {
+            0 => FastChannel::CrcErrors(payload),
+            1 => FastChannel::ReceivedPower {
+                power: payload / 4,
+                lock: Lock::from(payload % 4),
+            },
+            2 => FastChannel::PowerStatistics {
+                mean: (payload / 256) as u8,
+                deviation: (payload % 256) as u8,
+            },
+            3 => FastChannel::SyncLosses {
+                losses: payload / 4,
+                lock: Lock::from(payload % 4),
+            },
+            4 => FastChannel::PowerRange {
+                least: (payload / 256) as u8,
+                greatest: (payload % 256) as u8,
+            },
+            5 => FastChannel::Version {
+                major: (payload / 2048) as u8,
+                minor: (payload / 64 % 32) as u8,
+                patch: (payload % 64) as u8,
+            },
+            6 => FastChannel::CorrectedFrames(payload),
+            15 => FastChannel::Absent,
+            _ => FastChannel::Reserved(opcode),
+        }
+    }
+
+    // A received payload goes by the rule of its opcode.
+    #[tactic(auto, unfolding(crate::specs::FastChannel::payload_rule))]
+    pub fn payload_rule(opcode: u8, payload: u16) -> bool
+        ensures { result ≡ payload_rule opcode payload }
+    {
+        match opcode {
+            1 | 3 => payload % 4 < 2,
+            0..=6 => true,
+            15 => payload == 65535,
+            _ => payload == 0,
+        }
     }
 }
 
@@ -87,141 +156,19 @@ pub fn opcode(message: FastChannel) -> u8
 fn with_lock(number: u16, lock: Lock) -> u16
     ensures { result ≡ with_lock number lock }
 {
-    4 * (number % 16384) + lock_number(lock)
+    4 * (number % 16384) + u16::from(lock)
 }
 
 fn byte_pair(first: u8, second: u8) -> u16
     ensures { result ≡ 256 * first + second }
 {
-    256 * (first as u16) + (second as u16)
+    u16::from_be_bytes([first, second])
 }
 
 fn version_number(major: u8, minor: u8, patch: u8) -> u16
     ensures { result ≡ 2048 * (major % 32) + 64 * (minor % 32) + patch % 64 }
 {
     2048 * (major as u16 % 32) + 64 * (minor as u16 % 32) + (patch as u16 % 64)
-}
-
-pub fn payload(message: FastChannel) -> u16
-    ensures { result ≡ payload_of message }
-{
-    match message {
-        FastChannel::CrcErrors(errors) => errors,
-        FastChannel::ReceivedPower { power, lock } => with_lock(power, lock),
-        FastChannel::PowerStatistics { mean, deviation } => byte_pair(mean, deviation),
-        FastChannel::SyncLosses { losses, lock } => with_lock(losses, lock),
-        FastChannel::PowerRange { least, greatest } => byte_pair(least, greatest),
-        FastChannel::Version {
-            major,
-            minor,
-            patch,
-        } => version_number(major, minor, patch),
-        FastChannel::CorrectedFrames(frames) => frames,
-        FastChannel::Reserved(_) => 0,
-        FastChannel::Absent => 65535,
-    }
-}
-
-fn version_fits(major: u8, minor: u8, patch: u8) -> bool
-    ensures { result ≡ (fits_bits 5 major && fits_bits 5 minor && fits_bits 6 patch) }
-{
-    if 32 <= major {
-        return false;
-    }
-    if 32 <= minor {
-        return false;
-    }
-    patch < 64
-}
-
-fn reserved_fits(number: u8) -> bool
-    ensures { result ≡ (leb 7 number && leb number 14) }
-{
-    if number < 7 {
-        return false;
-    }
-    number <= 14
-}
-
-// No number of the message is too large for its bits, and a reserved opcode is one of 7 to 14.
-pub fn message_fits(message: FastChannel) -> bool
-    ensures { result ≡ message_fits message }
-{
-    match message {
-        FastChannel::CrcErrors(_) => true,
-        FastChannel::ReceivedPower { power, lock: _ } => power < 16384,
-        FastChannel::PowerStatistics {
-            mean: _,
-            deviation: _,
-        } => true,
-        FastChannel::SyncLosses { losses, lock: _ } => losses < 16384,
-        FastChannel::PowerRange {
-            least: _,
-            greatest: _,
-        } => true,
-        FastChannel::Version {
-            major,
-            minor,
-            patch,
-        } => version_fits(major, minor, patch),
-        FastChannel::CorrectedFrames(_) => true,
-        FastChannel::Reserved(number) => reserved_fits(number),
-        FastChannel::Absent => true,
-    }
-}
-
-#[tactic(auto, unfolding(crate::specs::FastChannel::message_of))]
-pub fn message_of(opcode: u8, payload: u16) -> FastChannel
-    ensures { result ≡ message_of opcode payload }
-{
-    match opcode {
-        0 => FastChannel::CrcErrors(payload),
-        1 => FastChannel::ReceivedPower {
-            power: payload / 4,
-            lock: lock_of(payload % 4),
-        },
-        2 => FastChannel::PowerStatistics {
-            mean: (payload / 256) as u8,
-            deviation: (payload % 256) as u8,
-        },
-        3 => FastChannel::SyncLosses {
-            losses: payload / 4,
-            lock: lock_of(payload % 4),
-        },
-        4 => FastChannel::PowerRange {
-            least: (payload / 256) as u8,
-            greatest: (payload % 256) as u8,
-        },
-        5 => FastChannel::Version {
-            major: (payload / 2048) as u8,
-            minor: (payload / 64 % 32) as u8,
-            patch: (payload % 64) as u8,
-        },
-        6 => FastChannel::CorrectedFrames(payload),
-        15 => FastChannel::Absent,
-        _ => FastChannel::Reserved(opcode),
-    }
-}
-
-// A received payload goes by the rule of its opcode.
-#[tactic(auto, unfolding(crate::specs::FastChannel::payload_rule))]
-pub fn payload_rule(opcode: u8, payload: u16) -> bool
-    ensures { result ≡ payload_rule opcode payload }
-{
-    let lock = payload % 4;
-    if opcode == 1 {
-        return lock < 2;
-    }
-    if opcode == 3 {
-        return lock < 2;
-    }
-    if opcode <= 6 {
-        return true;
-    }
-    if opcode == 15 {
-        return payload == 65535;
-    }
-    payload == 0
 }
 
 // The level that a code stands for, in hundred-thousandths of a dBm/m².

@@ -7,7 +7,7 @@ use crate::messages;
 use crate::messages::FlatMessage;
 use counts::{Rxfn, Txfn};
 use fast_channel::FastChannel;
-use header::{CodeAnswer, Fields, Header, coding};
+use header::{CodeAnswer, Fields, FrameKind, Header};
 
 #[repr(C)]
 #[derive(Clone, Copy)]
@@ -87,7 +87,7 @@ pub fn header_of(header: FlatHeader) -> Header
     let number = header.kind;
     let given = header.fields;
     let fields = fields_where(number <= 3, given);
-    let kind = header_reading::kind_of(number);
+    let kind = FrameKind::from(number);
     Header {
         txfn: Txfn(header.txfn),
         kind,
@@ -103,8 +103,8 @@ fn flat_fields(fields: Fields) -> FlatFields
     FlatFields {
         stamp: fields.stamp,
         rxfn: fields.rxfn.0,
-        ack: coding::bit_of(fields.ack),
-        valid: coding::bit_of(fields.valid),
+        ack: u8::from(fields.ack),
+        valid: u8::from(fields.valid),
         seconds: fields.seconds,
         applies: fields.applies,
         message,
@@ -120,7 +120,7 @@ pub fn flat_header(header: Header) -> FlatHeader
     FlatHeader {
         fields,
         txfn: header.txfn.0,
-        kind: coding::kind_number(kind),
+        kind: u8::from(kind),
     }
 }
 

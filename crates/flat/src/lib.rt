@@ -138,7 +138,7 @@ pub fn flat_next(given: FlatSender, answer: NextAnswer) -> FlatNext
     match answer {
         NextAnswer::Sent { sender, kind } => FlatNext {
             sender: states::flat_sender(sender),
-            kind: header::coding::kind_number(kind),
+            kind: u8::from(kind),
             refusal: 0,
         },
         NextAnswer::Refused(number) => FlatNext {

@@ -2,7 +2,7 @@
 ghost use Rattle.std.specs.Prelude.{◌≡◌};
 ghost use Rattle.flat.specs.Messages.{first_most, second_most, third_most, numbers_fit, message_of, flat_message};
 
-use fast_channel::FastChannel;
+use fast_channel::{FastChannel, Lock};
 
 #[repr(C)]
 #[derive(Clone, Copy)]
@@ -84,7 +84,7 @@ pub fn message_of(message: FlatMessage) -> FastChannel
         0 => FastChannel::CrcErrors(first),
         1 => FastChannel::ReceivedPower {
             power: first,
-            lock: fast_channel::lock_of(second),
+            lock: Lock::from(second),
         },
         2 => FastChannel::PowerStatistics {
             mean: (first % 256) as u8,
@@ -92,7 +92,7 @@ pub fn message_of(message: FlatMessage) -> FastChannel
         },
         3 => FastChannel::SyncLosses {
             losses: first,
-            lock: fast_channel::lock_of(second),
+            lock: Lock::from(second),
         },
         4 => FastChannel::PowerRange {
             least: (first % 256) as u8,
@@ -128,7 +128,7 @@ pub fn flat_message(message: FastChannel) -> FlatMessage
         FastChannel::ReceivedPower { power, lock } => numbers(
             1,
             power,
-            fast_channel::lock_number(lock),
+            u16::from(lock),
             0,
         ),
         FastChannel::PowerStatistics { mean, deviation } => numbers(
@@ -140,7 +140,7 @@ pub fn flat_message(message: FastChannel) -> FlatMessage
         FastChannel::SyncLosses { losses, lock } => numbers(
             3,
             losses,
-            fast_channel::lock_number(lock),
+            u16::from(lock),
             0,
         ),
         FastChannel::PowerRange { least, greatest } => numbers(4, least as u16, greatest as u16, 0),

@@ -19,6 +19,10 @@ kind_number Data = 1
 kind_number Type2 = 2
 kind_number Type3 = 3
 
+-- the type with a number; a number above 3 is taken for 3
+unfoldable pub kind_of : ℕ → FrameKind
+kind_of number = cond (eqb number 0) Idle (cond (eqb number 1) Data (cond (eqb number 2) Type2 Type3))
+
 -- the reserved bits, a number for each byte that has some: four at the top of d4, two of d10, one of d11
 pub record ReservedBits : Type 0 where
   pub d4 : ℕ

@@ -1,39 +1,17 @@
 // A header as 16 bytes, and what may be sent in them. Frames are built with the same two functions, fields_fit and header_bytes, and what was opened is
 // judged by the first.
-ghost use Rattle.std.specs.Prelude.{◌≡◌, ◌/◌, ◌%◌, ◌≤◌, ◌<◌};
-ghost use Rattle.header.specs.Header.{flag_bit, kind_number, all_ones, flags_byte, seconds_byte, channel_byte, rxfn_rule};
+ghost use Rattle.std.specs.Prelude.{◌≡◌};
+ghost use Rattle.header.specs.Header.{all_ones, flags_byte, seconds_byte, channel_byte, rxfn_rule};
 ghost use Rattle.header.specs.Header.{fields_fit, field_bytes, header_bytes};
 
 use crate::{Fields, FrameKind, Header};
 use fast_channel::FastChannel;
 
-pub fn kind_number(kind: FrameKind) -> u8
-    ensures value { result ≡ kind_number kind }
-    ensures small { result ≤ 3 }
-{
-    match kind {
-        FrameKind::Idle => 0,
-        FrameKind::Data => 1,
-        FrameKind::Type2 => 2,
-        FrameKind::Type3 => 3,
-    }
-}
-
-pub fn bit_of(flag: bool) -> u8
-    ensures value { result ≡ flag_bit flag }
-    ensures small { result ≤ 1 }
-{
-    if flag { 1 } else { 0 }
-}
-
 // With ACK-valid 0, RXFN is 0.
 pub fn rxfn_rule(valid: bool, rxfn: u16) -> bool
     ensures { result ≡ rxfn_rule valid rxfn }
 {
-    if valid {
-        return true;
-    }
-    rxfn == 0
+    valid || rxfn == 0
 }
 
 // No field is too large for its bits or against its rule (refusal 6; 11 of apply).
@@ -41,36 +19,17 @@ pub fn rxfn_rule(valid: bool, rxfn: u16) -> bool
 pub fn fields_fit(fields: Fields) -> bool
     ensures { result ≡ fields_fit fields }
 {
-    let valid = fields.valid;
-    let rxfn = fields.rxfn.0;
-    if !rxfn_rule(valid, rxfn) {
-        return false;
-    }
-    if 1099511627776 <= fields.stamp {
-        return false;
-    }
-    if 64 <= fields.seconds {
-        return false;
-    }
-    if 8 <= fields.applies {
-        return false;
-    }
-    let message = fields.message;
-    fast_channel::message_fits(message)
-}
-
-// The byte of a number at a power of 256.
-fn byte(number: u64, power: u64) -> u8
-    requires { 0 < power }
-    ensures { result ≡ number / power % 256 }
-{
-    (number / power % 256) as u8
+    rxfn_rule(fields.valid, fields.rxfn.0)
+        && fields.stamp < 1099511627776
+        && fields.seconds < 64
+        && fields.applies < 8
+        && fields.message.fits()
 }
 
 fn flags_byte(ack: bool, valid: bool, kind: FrameKind) -> u8
     ensures { result ≡ flags_byte all_ones.d4 ack valid kind }
 {
-    0xF0 + 8 * bit_of(ack) + 4 * bit_of(valid) + kind_number(kind)
+    0xF0 + 8 * u8::from(ack) + 4 * u8::from(valid) + u8::from(kind)
 }
 
 fn seconds_byte(seconds: u8) -> u8
@@ -82,7 +41,7 @@ fn seconds_byte(seconds: u8) -> u8
 fn channel_byte(applies: u8, message: FastChannel) -> u8
     ensures { result ≡ channel_byte all_ones.d11 applies message }
 {
-    0x80 + 16 * (applies % 8) + fast_channel::opcode(message) % 16
+    0x80 + 16 * (applies % 8) + message.opcode() % 16
 }
 
 // d0 to d13. A number too large for its field is cut off.
@@ -90,28 +49,26 @@ fn channel_byte(applies: u8, message: FastChannel) -> u8
 fn field_bytes(header: Header) -> [u8; 14]
     ensures { result ≡ field_bytes header }
 {
-    let txfn = header.txfn.0 as u64;
-    let kind = header.kind;
     let fields = header.fields;
-    let rxfn = fields.rxfn.0 as u64;
-    let stamp = fields.stamp;
-    let message = fields.message;
-    let payload = fast_channel::payload(message) as u64;
+    let txfn = header.txfn.0.to_le_bytes();
+    let rxfn = fields.rxfn.0.to_le_bytes();
+    let stamp = fields.stamp.to_le_bytes();
+    let payload = fields.message.payload().to_le_bytes();
     [
-        byte(txfn, 1),
-        byte(txfn, 256),
-        byte(rxfn, 1),
-        byte(rxfn, 256),
-        flags_byte(fields.ack, fields.valid, kind),
-        byte(stamp, 1),
-        byte(stamp, 256),
-        byte(stamp, 65536),
-        byte(stamp, 16777216),
-        byte(stamp, 4294967296),
+        txfn[0],
+        txfn[1],
+        rxfn[0],
+        rxfn[1],
+        flags_byte(fields.ack, fields.valid, header.kind),
+        stamp[0],
+        stamp[1],
+        stamp[2],
+        stamp[3],
+        stamp[4],
         seconds_byte(fields.seconds),
-        channel_byte(fields.applies, message),
-        byte(payload, 1),
-        byte(payload, 256),
+        channel_byte(fields.applies, fields.message),
+        payload[0],
+        payload[1],
     ]
 }
 
@@ -120,8 +77,7 @@ pub fn header_bytes(header: Header) -> [u8; 16]
     ensures { result ≡ header_bytes header }
 {
     let fields = field_bytes(header);
-    let sum = crc::crc_16(&fields) as u64;
-    let check = [byte(sum, 256), byte(sum, 1)];
+    let check = crc::crc_16(&fields).to_be_bytes();
     let mut coded = [0; 16];
     lent::write_at(&mut coded, 0, &fields);
     lent::write_at(&mut coded, 14, &check);

@@ -3,25 +3,50 @@
 
 pub mod coding;
 
-ghost use Rattle.std.specs.Prelude.{◌≡◌};
+ghost use Rattle.std.specs.Prelude.{◌≡◌, ◌≤◌};
 ghost use Rattle.refusals.specs.Numbers.{judged_by};
 ghost use Rattle.header.specs.Calls.{code_refusal, CodeHeaderOutcome};
+ghost use Rattle.header.specs.Header.{kind_number, kind_of};
 
 use counts::{Rxfn, Txfn};
 use fast_channel::FastChannel;
 use refusals::Refusal;
 
 // FRAME_TYPE, from 0 to 3. Type 2 is MGMT in the standard, and type 3 is reserved there.
-#[derive(Clone, Copy)]
+#[derive(Clone, Copy, Debug, PartialEq, Eq)]
 pub enum FrameKind {
-    Idle,
-    Data,
-    Type2,
-    Type3,
+    Idle = 0,
+    Data = 1,
+    Type2 = 2,
+    Type3 = 3,
+}
+
+// The two bits of FRAME_TYPE.
+impl From<FrameKind> for u8 {
+    ghost from_gives = { λ kind number. (number ≡ kind_number kind) × (number ≤ 3) };
+
+    fn from(kind: FrameKind) -> u8 {
+        kind as u8
+    }
+}
+
+// A number above 3 is taken for 3.
+impl From<u8> for FrameKind {
+    ghost from_gives = { λ number kind. kind ≡ kind_of number };
+
+    #[tactic(auto, unfolding(crate::specs::Header::kind_of))]
+    fn from(number: u8) -> FrameKind {
+        match number {
+            0 => FrameKind::Idle,
+            1 => FrameKind::Data,
+            2 => FrameKind::Type2,
+            _ => FrameKind::Type3,
+        }
+    }
 }
 
 // What a caller gives for a frame: every field but TXFN and the type.
-#[derive(Clone, Copy)]
+#[derive(Clone, Copy, Debug, PartialEq, Eq)]
 pub struct Fields {
     // 0 where `valid` is false.
     pub rxfn: Rxfn,
@@ -37,7 +62,7 @@ pub struct Fields {
     pub message: FastChannel,
 }
 
-#[derive(Clone, Copy)]
+#[derive(Clone, Copy, Debug, PartialEq, Eq)]
 pub struct Header {
     pub txfn: Txfn,
     pub kind: FrameKind,

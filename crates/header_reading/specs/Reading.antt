@@ -1,23 +1,18 @@
 -- What a receiver reads from the 16 bytes of a header, d0 to d15 (Tables 2-9 and 2-10; 01, "The frame on the wire"), and what read_header does, for all
 -- inputs. A refusal's number is 0 where nothing is refused (01, "Refusal numbers").
-use Rattle.std.specs.Prelude.{Bool, cond, ◌&&◌, List, [], ◌∷◌, ◌≡◌, ℕ, ◌/◌, ◌%◌, eqb, length, get_or, take, drop}
+use Rattle.std.specs.Prelude.{Bool, cond, ◌&&◌, List, [], ◌∷◌, ◌≡◌, ℕ, ◌/◌, ◌%◌, eqb, length, get_or, take, drop, Result}
 use Rattle.basics.specs.Lists.{same}
 use Rattle.basics.specs.Numbers.{digit, high_first, number_at}
-use Rattle.refusals.specs.Table.{Row, ◌unless◌, first_of, answer_by}
+use Rattle.refusals.specs.Numbers.{answer_by}
+use Rattle.refusals.specs.Table.{Row, ◌unless◌, first_of}
+use Rattle.refusals.specs.declared.Refusal.{Refusal}
 use Rattle.crc.specs.Crc.{crc_16}
 use Rattle.fast_channel.specs.FastChannel.{message_of, payload_rule}
-use Rattle.header.specs.Header.{ReservedBits, rxfn_rule}
-use Rattle.header.specs.declared.FrameKind.{FrameKind}
-use Rattle.header.specs.declared.FrameKind.TheVariants.{Idle, Data, Type2, Type3}
+use Rattle.header.specs.Header.{ReservedBits, kind_of, rxfn_rule}
 use Rattle.header.specs.declared.Fields.{Fields}
 use Rattle.header.specs.declared.Header.{Header}
-use Rattle.header_reading.specs.declared.ReadAnswer.{ReadAnswer}
-use Rattle.header_reading.specs.declared.ReadAnswer.TheVariants as read
 
 -- ---- what the bytes hold
-
-unfoldable pub kind_of : ℕ → FrameKind
-kind_of number = cond (eqb number 0) Idle (cond (eqb number 1) Data (cond (eqb number 2) Type2 Type3))
 
 -- the fast channel's opcode and payload
 abbrev pub opcode_in : List ℕ → ℕ
@@ -71,14 +66,9 @@ read_table bytes = 2 unless eqb (length bytes) 16 ∷ header_table bytes
 unfoldable pub read_refusal : List ℕ → ℕ
 read_refusal bytes = first_of (read_table bytes)
 
--- the paper's number for each case of the answer (01, last section)
-abbrev pub read_number : ReadAnswer → ℕ
-read_number (read.Read header) = 0
-read_number (read.Refused number) = number
-
-abbrev pub read_header : List ℕ → ReadAnswer
-read_header bytes = answer_by (read_refusal bytes) (read.Read (header_of bytes)) read.Refused
+abbrev pub read_header : List ℕ → Result Header Refusal
+read_header bytes = answer_by (read_refusal bytes) (header_of bytes)
 
 -- the whole outcome of `read_header`
-abbrev pub ReadHeaderOutcome : List ℕ → ReadAnswer → Type 0
+abbrev pub ReadHeaderOutcome : List ℕ → Result Header Refusal → Type 0
 ReadHeaderOutcome bytes r = r ≡ read_header bytes

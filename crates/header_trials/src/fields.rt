@@ -6,7 +6,7 @@ ghost use Rattle.std.specs.Prelude.{◌≤◌, length};
 use crate::messages;
 use crate::messages::Message;
 use counts::{Rxfn, Txfn};
-use header::{Fields, Header};
+use header::{Fields, FrameKind, Header};
 use vectors::numbers;
 
 fn write_message(bytes: &mut [u8; 24], message: Message) {
@@ -34,7 +34,7 @@ pub fn bytes(header: Header) -> [u8; 24] {
     let fields = header.fields;
     let mut bytes = [0u8; 24];
     numbers::write_two(&mut bytes, 0, header.txfn.0);
-    bytes[2] = header::coding::kind_number(kind);
+    bytes[2] = u8::from(kind);
     write_fields(&mut bytes, fields);
     bytes
 }
@@ -67,7 +67,7 @@ fn fields_of(bytes: &[u8]) -> Fields
 
 // The header of 24 bytes.
 pub fn header(bytes: &[u8; 24]) -> Header {
-    let kind = header_reading::kind_of(bytes[2]);
+    let kind = FrameKind::from(bytes[2]);
     let fields = fields_of(bytes);
     Header {
         txfn: Txfn(numbers::two_at(bytes, 0)),

@@ -1,9 +1,11 @@
 -- Opening a frame (01, "Refusal numbers"; 02, M-106 and M-101): the refusals 1, 2, 7 to 9 and 11 to 13, and the header and the area of a frame that is
 -- accepted, as they are where up to 8 wrong bytes of the coded header and of each payload word are repaired.
-use Rattle.std.specs.Prelude.{◌≡◌, Bool, ◌&&◌, List, [], ◌∷◌, ◌++◌, ℕ, ◌+◌, eqb, leb, length, take, drop}
+use Rattle.std.specs.Prelude.{◌≡◌, Bool, ◌&&◌, List, [], ◌∷◌, ◌++◌, ℕ, ◌+◌, eqb, leb, length, take, drop, Result}
 use Rattle.basics.specs.Lists.{same, is_some}
 use Rattle.basics.specs.Sizes.{area_size, frame_size}
-use Rattle.refusals.specs.Table.{Row, ◌unless◌, first_of, by, answer_by}
+use Rattle.refusals.specs.Numbers.{answer_by}
+use Rattle.refusals.specs.Table.{Row, ◌unless◌, first_of, by}
+use Rattle.refusals.specs.declared.Refusal.{Refusal}
 use Rattle.lent.specs.Written.{written}
 use Rattle.scrambler.specs.Scrambler.{taps_allowed, scrambled}
 use Rattle.header_reading.specs.Reading.{header_of, reserved_in, header_table}
@@ -13,8 +15,7 @@ use Rattle.frame.specs.Frame.{preamble, area_check}
 use Rattle.nearest.specs.Near.{near_header}
 use Rattle.repairing.specs.Body.{words_near, repaired_body}
 use Rattle.repairing.specs.Repairing.{wrong_bytes}
-use Rattle.opening.specs.declared.OpenAnswer.{OpenAnswer}
-use Rattle.opening.specs.declared.OpenAnswer.TheVariants.{Opened, Refused}
+use Rattle.opening.specs.declared.Opened.{Opened}
 
 -- the 2,072 bytes after the preamble, with the scrambler's bits taken off
 unfoldable pub unscrambled : ℕ → List ℕ → List ℕ
@@ -71,12 +72,7 @@ opened_area taps frame = area_part (repaired_body (unscrambled taps frame))
 abbrev pub opened_wrong : ℕ → List ℕ → ℕ
 opened_wrong taps frame = wrong_bytes taps (drop 9 frame)
 
--- the paper's number for each case of the answer (01, last section)
-abbrev pub open_number : OpenAnswer → ℕ
-open_number (Opened header repaired) = 0
-open_number (Refused number) = number
-
 -- the answer of `open`, and the area's buffer after it: a refusal leaves the buffer as it was
-pub record OpenOutcome (taps : ℕ) (frame before : List ℕ) (r : OpenAnswer) (after : List ℕ) : Type 0 where
-  pub answer : r ≡ answer_by (open_refusal taps frame before) (Opened (opened_header taps frame) (opened_wrong taps frame)) Refused
+pub record OpenOutcome (taps : ℕ) (frame before : List ℕ) (r : Result Opened Refusal) (after : List ℕ) : Type 0 where
+  pub answer : r ≡ answer_by (open_refusal taps frame before) record { header = opened_header taps frame; repaired = opened_wrong taps frame }
   pub bytes : after ≡ by (open_refusal taps frame before) (written before 0 (opened_area taps frame)) before

@@ -14,7 +14,7 @@ ghost use Rattle.parts.specs.Parts.{plain_header, parity_out, remainders_out, bu
 use basics::sizes;
 use counts::{Rxfn, Txfn};
 use fast_channel::FastChannel;
-use header::{Fields, FrameKind, Header, coding};
+use header::{Fields, FrameKind, Header};
 use opening::OpenAnswer;
 use reed_solomon::interleaving;
 
@@ -73,7 +73,7 @@ pub extern "C" fn part_repair_word(word: &mut [u8], remainder: &[u8]) -> u8
     let found = near.found;
     let repaired = near.word;
     lent::write_at(word, 0, &repaired);
-    coding::bit_of(found)
+    u8::from(found)
 }
 
 // DATA, frame 0, and nothing else to tell.

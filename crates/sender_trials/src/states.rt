@@ -52,7 +52,7 @@ pub fn waiting_answer(found: WaitingAnswer) -> [u8; 17] {
 // What next_frame answers.
 pub fn next_answer(found: NextAnswer, given: Sender) -> [u8; 20] {
     match found {
-        NextAnswer::Sent { sender, kind } => answer(0, header::coding::kind_number(kind), sender),
+        NextAnswer::Sent { sender, kind } => answer(0, u8::from(kind), sender),
         NextAnswer::Refused(number) => answer(number, 0, given),
     }
 }

@@ -11,9 +11,9 @@ use Rattle.header.proofs.coding.header_bytes.Goals as goal
 pub returns : goal.returns
 unfolding header_bytes_with
 returns c =
-    let check : List ℕ = c.byte.result ∷ c.byte-2.result ∷ [] in
-    let fields : List ℕ = c.field_bytes-fields.result in
+    let check = c.to_be_bytes-check.result in
+    let fields = c.field_bytes-fields.result in
     let joined : fields ++ check ≡ header_bytes c.args.header =
-    simp (c.byte.ensures, c.byte-2.ensures, div-one, c.crc_16-sum.ensures, c.field_bytes-fields.ensures) in
+    simp (c.to_be_bytes-check.ensures, c.crc_16.ensures, c.field_bytes-fields.ensures) in
     c.write_at-2.ensures ∙ ap (λ l. written l 14 check) c.write_at.ensures
     ∙ written_parts (zeros 16) fields check 14 (ap length c.field_bytes-fields.ensures ∙ fields_length all_ones c.args.header) refl ∙ joined
