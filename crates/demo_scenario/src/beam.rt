@@ -27,8 +27,7 @@ fn wave(frame: u64, period: u64) -> u64
     ensures low { result ≤ period }
 {
     let place = frame % period;
-    let rest = period - place;
-    if place < rest { place } else { rest }
+    place.min(period - place)
 }
 
 // How far the beam is off at a frame: three waves together.
@@ -44,13 +43,11 @@ pub fn shake_at(frame: u16) -> u64
 pub fn fate_of(shake: u64) -> Fate
     ensures { result ≡ fate_at shake }
 {
-    if shake < 29 {
-        return Fate::Arrives;
+    match shake {
+        0..29 => Fate::Arrives,
+        29..37 => Fate::Damaged,
+        37.. => Fate::Lost,
     }
-    if shake < 37 {
-        return Fate::Damaged;
-    }
-    Fate::Lost
 }
 
 // How many bytes of a damaged frame are wrong.
@@ -58,8 +55,7 @@ fn wrong_in(frame: u16) -> u64
     ensures value { result ≡ wrong_at frame }
     ensures few { result ≤ 77 }
 {
-    let shake = shake_at(frame);
-    if shake < 24 { 0 } else { shake - 24 }
+    shake_at(frame).saturating_sub(24)
 }
 
 // Every sixteenth is hit from its first byte on, in its preamble first; of the others, one in its coded header and the next in a word of its payload.
@@ -80,26 +76,15 @@ fn hit_of(frame: u16) -> Hit
     }
 }
 
-// A byte with every bit turned.
-fn turned(byte: u8) -> u8
-    ensures { result ≡ 255 - byte }
-{
-    255 - byte
-}
-
 // Damages a frame: every bit of each wrong byte is turned.
 pub fn damage(frame: u16, bytes: &mut [u8])
     requires { frame_size ≤ length bytes.old }
     ensures { bytes.new ≡ damaged_at frame bytes.old }
 {
     let hit = hit_of(frame);
-    let apart = hit.apart;
-    let mut place = hit.first;
-    let mut left = wrong_in(frame);
-    while 0 < left {
-        bytes[place] = turned(bytes[place]);
-        place = place + apart;
-        left = left - 1;
+    for wrong in 0..wrong_in(frame) as usize {
+        let place = hit.first + hit.apart * wrong;
+        bytes[place] = !bytes[place];
     }
 }
 

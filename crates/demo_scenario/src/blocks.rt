@@ -16,23 +16,20 @@ pub fn length_of(number: u16) -> usize
 fn sample(number: u16, place: usize) -> u8
     ensures { result ≡ sample_of number place }
 {
-    if place == 0 {
-        return (number / 256) as u8;
+    let [high, low] = number.to_be_bytes();
+    match place {
+        0 => high,
+        1 => low,
+        _ => ((number as usize * 31 + place % 256 * 7) % 256) as u8,
     }
-    if place == 1 {
-        return (number % 256) as u8;
-    }
-    ((number as usize * 31 + place % 256 * 7) % 256) as u8
 }
 
 // Writes a block of as many bytes as are lent.
 pub fn write(number: u16, block: &mut [u8])
     ensures { block.new ≡ entries (sample_of number) 0 (length block.old) }
 {
-    let mut place: usize = 0;
-    while place < block.len() {
-        block[place] = sample(number, place);
-        place = place + 1;
+    for (place, byte) in block.iter_mut().enumerate() {
+        *byte = sample(number, place);
     }
 }
 
@@ -40,24 +37,11 @@ pub fn write(number: u16, block: &mut [u8])
 pub fn is_block(number: u16, bytes: &[u8]) -> bool
     ensures { result ≡ true → bytes.now ≡ entries (sample_of number) 0 (length_of number) }
 {
-    if bytes.len() != length_of(number) {
-        return false;
-    }
-    let mut place: usize = 0;
-    while place < bytes.len() {
-        if bytes[place] != sample(number, place) {
-            return false;
-        }
-        place = place + 1;
-    }
-    true
-}
-
-// The number of two bytes, high byte first.
-fn of_two(high: u8, low: u8) -> u16
-    ensures { result ≡ high * 256 + low }
-{
-    high as u16 * 256 + low as u16
+    bytes.len() == length_of(number)
+        && bytes
+            .iter()
+            .enumerate()
+            .all(|(place, byte)| *byte == sample(number, place))
 }
 
 // The number of a block that came out.
@@ -65,8 +49,8 @@ fn of_two(high: u8, low: u8) -> u16
 pub fn number_of(block: &[u8]) -> u16
     ensures { result ≡ number_in block.now }
 {
-    if block.len() < 2 {
-        return 0;
+    match block {
+        [high, low, ..] => u16::from_be_bytes([*high, *low]),
+        _ => 0,
     }
-    of_two(block[0], block[1])
 }

@@ -1,4 +1,4 @@
-use Rattle.std.proofs.Common.{arith, ◌∙◌, length, length-set}
+use Rattle.std.proofs.Common.{arith, ◌∙◌, length}
 use Rattle.basics.specs.Lists.{entries}
 use Rattle.basics.proofs.Lists.{entries_length}
 use Rattle.basics.proofs.Fill.{filled_more, filled_all}
@@ -11,16 +11,14 @@ pub loop-place-preserved : goal.loop-place-preserved
 loop-place-preserved c =
     let number = c.args.number in
     let at = c.loop-place in
-    let long = length c.args.block.now in (
-      omega (arith, length-set at.block at.place c.sample.result),
-      filled_more (entries (sample_of number) 0 long) at.block at.place _ at.invariant.1 (omega arith)
-          (c.sample.ensures ∙ sample_at number long at.place (omega arith)),
-    )
+    let long = length c.args.block.now in
+    filled_more (entries (sample_of number) 0 long) at.block at.place _ at.invariant (omega arith)
+    (c.sample.ensures ∙ sample_at number long at.place (omega arith))
 
 pub returns : goal.returns
 returns c =
     let number = c.args.number in
     let at = c.loop-place in
     let long = length c.args.block.now in
-    filled_all (entries (sample_of number) 0 long) at.block long (λ k h. at.invariant.1 k (omega arith)) (omega arith)
+    filled_all (entries (sample_of number) 0 long) at.block long (λ k h. at.invariant k (omega arith)) (omega arith)
     (entries_length (sample_of number) 0 long)

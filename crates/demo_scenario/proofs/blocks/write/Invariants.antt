@@ -1,4 +1,4 @@
-use Rattle.std.proofs.Common.{length, ◌-◌, ◌≤◌}
+use Rattle.std.proofs.Common.{length}
 use Rattle.basics.specs.Lists.{entries}
 use Rattle.basics.proofs.Fill.{Filled}
 use Rattle.demo_scenario.specs.Blocks.{sample_of}
@@ -7,7 +7,4 @@ use Rattle.demo_scenario.proofs.blocks.write.Given as goal
 -- The bytes before the place are the block's samples.
 abbrev pub invariant-loop-place : goal.invariant-loop-place
 invariant-loop-place l =
-    (l.place ≤ length l.block) × Filled (entries (sample_of l.number) 0 (length l.initial.block)) l.place l.block
-
-abbrev pub decreases-loop-place : goal.decreases-loop-place
-decreases-loop-place l = length l.initial.block - l.place
+    Filled (entries (sample_of l.number) 0 (length l.initial.block)) l.place l.block
