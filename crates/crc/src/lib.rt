@@ -18,48 +18,56 @@ const POLYNOMIAL_16: u64 = 0x110210000;
 // Table 2-15, frame payload.
 const POLYNOMIAL_32: u64 = 0x104C11DB7;
 
-// A register times x, modulo a polynomial of degree 32.
-fn twice(register: u64, polynomial: u64) -> u64
-    requires { (register < 2 ^ 32) × (polynomial / 2 ^ 32 ≡ 1) }
-    ensures { (result < 2 ^ 32) × (result ≡ twice 32 polynomial register) }
-{
-    let double = register * 2;
-    double ^ (double / 0x100000000 * polynomial)
+// The bytes that folding leaves out of an area: 223 times eight, and the 124 that remain are too few for one more turn.
+const FOLDED: usize = 1784;
+
+// A divisor over bits, of degree 32: digit k of the number is the coefficient of x^k. A register holds what is left of a message so far.
+#[derive(Clone, Copy)]
+struct Divisor {
+    polynomial: u64,
+    ghost of_degree_32: { polynomial / 2 ^ 32 ≡ 1 },
 }
 
-// The register after one more byte.
-fn byte_step(register: u64, polynomial: u64, byte: u8) -> u64
-    requires { (register < 2 ^ 32) × (polynomial / 2 ^ 32 ≡ 1) }
-    ensures { (result < 2 ^ 32) × (result ≡ byte_step 32 polynomial register byte) }
-{
-    let mut sum = register ^ (byte as u64 * 0x1000000);
-    let mut n: usize = 0;
-    while n < 8 {
-        sum = twice(sum, polynomial);
-        n += 1;
+impl Divisor {
+    // A register times x, modulo the polynomial.
+    fn twice(self, register: u32) -> u32
+        ensures { result ≡ twice 32 self.polynomial register }
+    {
+        let double = register as u64 * 2;
+        (double ^ (double / 0x100000000 * self.polynomial)) as u32
     }
-    sum
-}
 
-// The check sum of a message, bit by bit.
-fn by_bits(message: &[u8], polynomial: u64) -> u64
-    requires { polynomial / 2 ^ 32 ≡ 1 }
-    ensures { (result < 2 ^ 32) × (result ≡ crc 32 polynomial message.now) }
-{
-    let mut register: u64 = 0;
-    let mut i = 0;
-    while i < message.len() {
-        register = byte_step(register, polynomial, message[i]);
-        i += 1;
+    // The register after one more byte.
+    fn byte_step(self, register: u32, byte: u8) -> u32
+        ensures { result ≡ byte_step 32 self.polynomial register byte }
+    {
+        let mut sum = register ^ (byte as u32 * 0x1000000);
+        for _ in 0..u8::BITS {
+            sum = self.twice(sum);
+        }
+        sum
     }
-    register
+
+    // The check sum of a message, bit by bit.
+    fn check_sum(self, message: &[u8]) -> u32
+        ensures { result ≡ crc 32 self.polynomial message.now }
+    {
+        let mut register: u32 = 0;
+        for &byte in message {
+            register = self.byte_step(register, byte);
+        }
+        register
+    }
 }
 
 // The CRC-16 of a message.
 pub fn crc_16(message: &[u8]) -> u16
     ensures { result ≡ crc_16 message.now }
 {
-    (by_bits(message, POLYNOMIAL_16) / 0x10000) as u16
+    let divisor = Divisor {
+        polynomial: POLYNOMIAL_16,
+    };
+    (divisor.check_sum(message) / 0x10000) as u16
 }
 
 // Adds a number's eight bytes to those from index at on.
@@ -91,16 +99,14 @@ fn fold(bytes: &mut [u8])
 pub fn crc_32(message: &[u8]) -> u32
     ensures { result ≡ crc_32 message.now }
 {
-    if message.len() != sizes::AREA_SIZE {
-        return by_bits(message, POLYNOMIAL_32) as u32;
+    let divisor = Divisor {
+        polynomial: POLYNOMIAL_32,
+    };
+    let Ok(mut bytes) = <[u8; sizes::AREA_SIZE]>::try_from(message) else {
+        return divisor.check_sum(message);
+    };
+    for at in (0..FOLDED).step_by(8) {
+        fold(&mut bytes[at..]);
     }
-    let mut bytes = [0u8; sizes::AREA_SIZE];
-    lent::write_at(&mut bytes, 0, message);
-    let mut i = 0;
-    // 223 turns leave 124 bytes, too few for one more.
-    while i < 1784 {
-        fold(&mut bytes[i..]);
-        i += 8;
-    }
-    by_bits(&bytes[i..], POLYNOMIAL_32) as u32
+    divisor.check_sum(&bytes[FOLDED..])
 }

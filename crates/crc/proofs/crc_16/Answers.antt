@@ -9,4 +9,4 @@ use Rattle.crc.proofs.crc_16.Goals as goal
 pub returns : goal.returns
 returns c =
     let message = c.args.message.now in
-    ap (λ x. x / 2 ^ 16) (c.by_bits.ensures.1 ∙ wide_crc message) ∙ shl-shr (crc_16 message) 16
+    ap (λ x. x / 2 ^ 16) (c.check_sum.ensures ∙ wide_crc message) ∙ shl-shr (crc_16 message) 16
