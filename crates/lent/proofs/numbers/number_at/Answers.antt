@@ -1,9 +1,12 @@
--- All eight reads are inside the buffer, and eight bytes, each worth 256 times the one before, are the number that stands there (`number_at_lem`).
-use mathlib.Core.Path.{◌∙◌}
-use Rattle.lent.proofs.Bytes.{number_at_lem}
+-- The eight bytes are the buffer's from there on (`number_of_part`), and what the library makes of them is their number.
+use Rattle.std.proofs.Common.{◌≡◌, ◌∙◌, arith}
+use Rattle.basics.specs.Numbers.{number_at}
+use Rattle.lent.proofs.Bytes.{number_of_part}
 use Rattle.lent.proofs.numbers.number_at.Goals as goal
 
 pub returns : goal.returns
 returns c =
-    let args = c.args in
-    c.number_of.ensures ∙ number_at_lem args.bytes.now args.at
+    let part = rw (c.unwrap-eight.ensures) at c.first_chunk.ensures.cases in
+    let word = c.unwrap-eight.result.now in
+    let own : c.from_le_bytes.result ≡ number_at 0 8 word = omega (arith, c.from_le_bytes.ensures) in
+    own ∙ number_of_part c.args.bytes.now word c.args.at 8 part.same c.requires
