@@ -1,13 +1,15 @@
 -- The length of the packet at a position, as the code finds it: there is no room for a mark; the mark is no length; it is one, and the
 -- packet stands inside the list.
-use mathlib.Core.Path.{◌≡◌, sym, ◌∙◌}
+use mathlib.Core.Path.{◌≡◌, refl}
 use mathlib.Core.Bool.{Bool, true, false, and-false}
 use mathlib.Core.List.{List}
-use Prim.Native.Nat.{ℕ, ◌+◌, ◌≤◌, ◌<◌}
+use Prim.Native.Nat.{ℕ, ◌+◌, ◌<◌}
 use native.Mathlib.Omega.{arith}
 use lib.ListN.{length}
+use Rattle.std.specs.Prelude.{unwrap_or}
+use Rattle.std.specs.Bool.{then_some}
 use borrow.Author.Tests.{lt-leb}
-use Rattle.link.proofs.Store.{mark_from, is_length_from, sized}
+use Rattle.link.proofs.Store.{mark_from, is_length_from}
 use Rattle.list.specs.Entries.{length_at}
 
 module _ (list : List ℕ) (position : ℕ) where
@@ -24,5 +26,8 @@ module _ (list : List ℕ) (position : ℕ) where
     unfolding length_at
     is_length_lem h = rw (← e, ← test, h)
 
-    pub inside : t ≡ true → position + 2 + n ≤ length list
-    inside h = (sized list position n 9000 (sym test ∙ h)).room
+  -- as the code answers it
+  pub found : (n : ℕ) → n ≡ mark_from list position → (t : Bool) → t ≡ is_length_from 9000 n list position
+      → unwrap_or (then_some t n) 0 ≡ length_at list position
+  found n e true test = is_length_lem n e true test refl
+  found n e false test = no_length n e false test refl

@@ -8,7 +8,7 @@ use basics::sizes;
 use refusals::Refusal;
 
 // The place and the length of a packet, and the position after it.
-#[derive(Clone, Copy, Debug, PartialEq, Eq)]
+#[derive(Clone, Copy)]
 pub struct Place {
     pub start: usize,
     pub length: usize,
@@ -28,7 +28,7 @@ fn length_at(list: &[u8], position: usize) -> Option<usize>
 }
 
 // What stands at a position, as numbers; None at the list's end. Refusal: 16.
-#[tactic(auto, unfolding(crate::specs::Entries::entry_answer, crate::specs::Entries::entry_refusal, refusals::specs::Table::first_of, refusals::specs::Table::by))]
+#[tactic(auto, unfolding(crate::specs::Entries::entry_answer, crate::specs::Entries::entry_refusal, refusals::specs::Table::first_of, refusals::specs::Table::by, refusals::specs::Numbers::refusal_of))]
 pub fn entry(list: &[u8], position: usize) -> Result<Option<Place>, Refusal>
     ensures { EntryOutcome list.now position result }
 {
@@ -45,6 +45,7 @@ pub fn entry(list: &[u8], position: usize) -> Result<Option<Place>, Refusal>
 }
 
 // The packet at a position, as the part of the list that holds it; an empty part at an end or a refusal.
+#[tactic(auto, unfolding(crate::specs::Entries::packet_at, crate::specs::Entries::place_at))]
 pub fn packet(list: &[u8], position: usize) -> &[u8]
     ensures { PacketOutcome list.now list.entry.ref_ptr position result.now result.ref_ptr }
 {

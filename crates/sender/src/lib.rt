@@ -78,7 +78,7 @@ pub fn put(queue: &mut [u8], sender: Sender, packet: &[u8]) -> Result<Sender, Re
 }
 
 // The packets that wait, one that is begun among them, and how many bytes of them wait.
-#[derive(Clone, Copy, Debug, PartialEq, Eq)]
+#[derive(Clone, Copy)]
 pub struct Counted {
     pub packets: usize,
     pub bytes: usize,

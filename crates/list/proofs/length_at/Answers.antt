@@ -1,22 +1,17 @@
--- No room for a mark, a mark that is no length, or a length: the laws of Lengths.antt. Only the last is not 0, and lies inside the list.
-use native.Mathlib.Omega.{arith}
-use Rattle.list.proofs.Lengths.{no_mark, no_length, is_length_lem, inside}
+-- No room for a mark, or the mark that stands there, judged: the laws of Lengths.antt.
+use Rattle.std.proofs.Common.{ap, ◌∙◌, arith, unwrap_or, Option, ℕ}
+use Rattle.list.proofs.Lengths.{no_mark, found}
 use Rattle.list.proofs.length_at.Goals as goal
+use Rattle.list.proofs.length_at.Goals.{then-list-lt2-via-then-list-lt2, then-list-lt2-via-else-list-lt2+then-list-position}
 
 pub returns-then-list-lt2-clause-value : goal.returns-then-list-lt2-clause-value
-returns-then-list-lt2-clause-value c = no_mark c.args.list.now c.args.position (omega arith)
-
-pub returns-then-list-position-clause-value : goal.returns-then-list-position-clause-value
-returns-then-list-position-clause-value c = no_mark c.args.list.now c.args.position (omega arith)
-
-pub returns-then-not-is_length-clause-value : goal.returns-then-not-is_length-clause-value
-returns-then-not-is_length-clause-value c =
-    no_length c.args.list.now c.args.position _ c.mark_at-length.ensures _ c.is_length.ensures c.if-not-is_length.true
+returns-then-list-lt2-clause-value c = no_mark c.args.list.now c.args.position (
+    elim c.then-list-lt2.branch [
+      | then-list-lt2-via-then-list-lt2 w ↦ omega arith
+      | then-list-lt2-via-else-list-lt2+then-list-position w ↦ omega arith
+    ])
 
 pub returns-clause-value : goal.returns-clause-value
 returns-clause-value c =
-    is_length_lem c.args.list.now c.args.position _ c.mark_at-length.ensures _ c.is_length.ensures c.if-not-is_length.false
-
-pub returns-clause-inside : goal.returns-clause-inside
-returns-clause-inside c =
-    λ ne. inside c.args.list.now c.args.position _ c.mark_at-length.ensures _ c.is_length.ensures c.if-not-is_length.false
+    ap (λ (o : Option ℕ). unwrap_or o 0) c.then_some.ensures
+    ∙ found c.args.list.now c.args.position _ c.mark_at-length.ensures _ c.is_length.ensures
