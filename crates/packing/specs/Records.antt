@@ -1,6 +1,7 @@
 -- What the code does: it reads an area record by record, from position 0 on. Reading accepts exactly the areas that `Allowed` allows, with the pieces that it
 -- sees in them (`area_exactly` of demand 2), so whoever believes `Allowed` need not believe anything here.
-use Rattle.std.specs.Prelude.{Bool, true, cond, ◌&&◌, List, [], ◌∷◌, ℕ, zero, suc, ◌+◌, length, take, drop, ltb, eqb, Some, None, Ok, Err}
+use Rattle.std.specs.List.{list_all}
+use Rattle.std.specs.Prelude.{Bool, cond, List, [], ◌∷◌, ℕ, zero, suc, ◌+◌, length, take, drop, ltb, eqb, Some, None, Ok, Err}
 use Rattle.std.proofs.Math.Option.{Option, none, some}
 use Rattle.basics.specs.Sizes.{area_size}
 use Rattle.link.specs.Link.{Piece}
@@ -14,8 +15,7 @@ use Rattle.packing.specs.declared.Record.{Record}
 -- ---------------------------------------------------------------- what stands at a position
 
 abbrev pub all_zero : List ℕ → Bool
-all_zero [] = true
-all_zero (byte ∷ bytes) = eqb byte 0 && all_zero bytes
+all_zero = list_all (λ byte. eqb byte 0)
 
 -- The records end here: at least one stands before, and all bytes from here on are 0.
 unfoldable pub end_at : List ℕ → ℕ → Found

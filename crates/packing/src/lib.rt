@@ -97,7 +97,7 @@ fn end_at(area: &[u8], at: usize) -> Result<Option<Record>, Refusal>
     Ok(None)
 }
 
-// A position behind the area has no bytes.
+// Whether all bytes from a position on are 0. Behind the area there are none.
 fn are_zeros(area: &[u8], at: usize) -> bool
     ensures { result ≡ all_zero (drop at area.now) }
 {
