@@ -1,7 +1,7 @@
 -- The check at the end: the search changes at most 8 places, so what it finds is near exactly where its sums are 0, which makes it a codeword.
 use mathlib.Core.Path.{◌≡◌, refl, sym, ap, ap₂, ◌∙◌, subst}
 use mathlib.Core.Bool.{Bool, true, false, cond, false≢true}
-use mathlib.Core.Option.{none, some}
+use Rattle.std.specs.Prelude.{None, Some}
 use mathlib.Core.List.{List, [], ◌∷◌, ◌++◌}
 use Prim.Native.Nat.{ℕ, zero, suc, ◌+◌, ◌-◌, ◌≤◌, ◌<◌}
 use native.Mathlib.Omega.{arith}
@@ -104,12 +104,12 @@ module _ (w x t : List ℕ) (long : length w ≡ 255) (hw : Bytes w) (e : x ≡ 
   bytes : Bytes x
   bytes = subst Bytes (sym e) (search_bytes w hw)
 
-  pub tested_found : same t (zeros 16) ≡ true → near_word w ≡ some x
+  pub tested_found : same t (zeros 16) ≡ true → near_word w ≡ Some x
   tested_found q =
       let code = sums_codeword x (ap length e ∙ search_length w ∙ long) bytes (sym et ∙ same_true t (zeros 16) q) in
       near_one w long x (bytes, codeword_true x code, subst (λ (y : List ℕ). differences y w ≤ 8) (sym e) (search_differences w))
 
-  pub tested_none : same t (zeros 16) ≡ false → near_word w ≡ none
+  pub tested_none : same t (zeros 16) ≡ false → near_word w ≡ None
   tested_none q =
       near_nothing w long (λ c n.
       let s : c ≡ x = sym (search_finds w c long hw n) ∙ sym e in

@@ -2,7 +2,7 @@
 use mathlib.Core.Path.{◌≡◌, refl, sym, ap, ◌∙◌, subst}
 use mathlib.Core.Logic.{◌⊎◌, ⊎_elim}
 use mathlib.Core.Bool.{Bool, true, false, false≢true}
-use mathlib.Core.Option.{Option, none, some, some-injective, none-ne-some}
+use Rattle.std.specs.Prelude.{Option, None, Some}
 use mathlib.Core.List.{List, [], ◌∷◌}
 use Prim.Native.Nat.{ℕ, zero, suc, ◌<◌}
 use native.Mathlib.Omega.{arith}
@@ -14,36 +14,36 @@ use Rattle.nearest.proofs.PlaceLists.{same_or}
 record FoundBelow (n : ℕ) (ask : ℕ → Option (List ℕ)) (answer : List ℕ) : Type 0 where
   pub at : ℕ
   pub below : at < n
-  pub is : ask at ≡ some answer
+  pub is : ask at ≡ Some answer
 
-found_below : (n : ℕ) (ask : ℕ → Option (List ℕ)) (answer : List ℕ) → first_below n ask ≡ some answer → FoundBelow n ask answer
+found_below : (n : ℕ) (ask : ℕ → Option (List ℕ)) (answer : List ℕ) → first_below n ask ≡ Some answer → FoundBelow n ask answer
 unfolding first_below
-found_below zero ask answer e = absurd (none-ne-some answer e)
+found_below zero ask answer e = absurd (cc)
 found_below (suc n) ask answer e = go (first_below n ask) refl e (λ q. found_below n ask answer q)
   where
-    go : (o : Option (List ℕ)) → first_below n ask ≡ o → or_else o (ask n) ≡ some answer
-        → (first_below n ask ≡ some answer → FoundBelow n ask answer)
+    go : (o : Option (List ℕ)) → first_below n ask ≡ o → or_else o (ask n) ≡ Some answer
+        → (first_below n ask ≡ Some answer → FoundBelow n ask answer)
         → FoundBelow (suc n) ask answer
-    go none q r ih = record { at = n; below = omega arith; is = r }
-    go (some c) q r ih = let b = ih (q ∙ r) in record { at = b.at; below = omega (arith, b.below); is = b.is }
+    go None q r ih = record { at = n; below = omega arith; is = r }
+    go (Some c) q r ih = let b = ih (q ∙ r) in record { at = b.at; below = omega (arith, b.below); is = b.is }
 
-none_below : (n : ℕ) (ask : ℕ → Option (List ℕ)) → first_below n ask ≡ none → (k : ℕ) → k < n → ask k ≡ none
+none_below : (n : ℕ) (ask : ℕ → Option (List ℕ)) → first_below n ask ≡ None → (k : ℕ) → k < n → ask k ≡ None
 unfolding first_below
 none_below zero ask e k h = absurd (omega arith)
 none_below (suc n) ask e k h = go (first_below n ask) refl e (same_or k n) (λ q. none_below n ask q k)
   where
-    go : (o : Option (List ℕ)) → first_below n ask ≡ o → or_else o (ask n) ≡ none → (k ≡ n) ⊎ (k ≡ n → ⊥)
-        → (first_below n ask ≡ none → k < n → ask k ≡ none) → ask k ≡ none
-    go none q r d ih = ⊎_elim (λ (z : k ≡ n). ap ask z ∙ r) (λ z. ih q (omega (arith, z))) d
-    go (some c) q r d ih = absurd (none-ne-some c (sym r))
+    go : (o : Option (List ℕ)) → first_below n ask ≡ o → or_else o (ask n) ≡ None → (k ≡ n) ⊎ (k ≡ n → ⊥)
+        → (first_below n ask ≡ None → k < n → ask k ≡ None) → ask k ≡ None
+    go None q r d ih = ⊎_elim (λ (z : k ≡ n). ap ask z ∙ r) (λ z. ih q (omega (arith, z))) d
+    go (Some c) q r d ih = absurd (cc)
 
 record FoundWord (n : ℕ) (ask : List ℕ → Option (List ℕ)) (answer : List ℕ) : Type 0 where
   pub at : List ℕ
   pub bytes : Bytes at
   pub long : length at ≡ n
-  pub is : ask at ≡ some answer
+  pub is : ask at ≡ Some answer
 
-found_word : (n : ℕ) (ask : List ℕ → Option (List ℕ)) (answer : List ℕ) → first_word n ask ≡ some answer → FoundWord n ask answer
+found_word : (n : ℕ) (ask : List ℕ → Option (List ℕ)) (answer : List ℕ) → first_word n ask ≡ Some answer → FoundWord n ask answer
 unfolding first_word
 found_word zero ask answer e = record { at = []; bytes = tt; long = refl; is = e }
 found_word (suc n) ask answer e =
@@ -51,7 +51,7 @@ found_word (suc n) ask answer e =
     let r = found_word n (λ c. ask (b.at ∷ c)) answer b.is in
     record { at = b.at ∷ r.at; bytes = (b.below, r.bytes); long = ap suc r.long; is = r.is }
 
-none_word : (n : ℕ) (ask : List ℕ → Option (List ℕ)) → first_word n ask ≡ none → (c : List ℕ) → Bytes c → length c ≡ n → ask c ≡ none
+none_word : (n : ℕ) (ask : List ℕ → Option (List ℕ)) → first_word n ask ≡ None → (c : List ℕ) → Bytes c → length c ≡ n → ask c ≡ None
 unfolding first_word
 none_word zero ask e [] h l = e
 none_word zero ask e (b ∷ c) h l = absurd (omega arith)
@@ -68,27 +68,27 @@ module _ (n : ℕ) (test : List ℕ → Bool) where
   abbrev pub Passes : List ℕ → Type 0
   Passes c = Bytes c × (length c ≡ n) × (test c ≡ true)
 
-  some_is : (b : Bool) (a c : List ℕ) → answered b a ≡ some c → (b ≡ true) × (a ≡ c)
-  some_is true a c e = (refl, some-injective a c e)
-  some_is false a c e = absurd (none-ne-some c e)
+  some_is : (b : Bool) (a c : List ℕ) → answered b a ≡ Some c → (b ≡ true) × (a ≡ c)
+  some_is true a c e = (refl, cc)
+  some_is false a c e = absurd (cc)
 
-  none_is : (b : Bool) (a : List ℕ) → answered b a ≡ none → b ≡ true → ⊥
-  none_is true a e t = absurd (none-ne-some a (sym e))
+  none_is : (b : Bool) (a : List ℕ) → answered b a ≡ None → b ≡ true → ⊥
+  none_is true a e t = absurd (cc)
   none_is false a e t = false≢true t
 
-  pub tried_is : (c : List ℕ) → tried ≡ some c → Passes c
+  pub tried_is : (c : List ℕ) → tried ≡ Some c → Passes c
   tried_is c e =
       let f = found_word n (λ c. answered (test c) c) c e in
       let s = some_is (test f.at) f.at c f.is in
       (subst Bytes s.1 f.bytes, ap length (sym s.1) ∙ f.long, ap test (sym s.1) ∙ s.0)
 
-  pub tried_none : tried ≡ none → (c : List ℕ) → Passes c → ⊥
+  pub tried_none : tried ≡ None → (c : List ℕ) → Passes c → ⊥
   tried_none e c p = none_is (test c) c (none_word n (λ c. answered (test c) c) e c p.0 p.1) p.2
 
   -- where at most one passes, it is found
-  pub tried_one : (c : List ℕ) → Passes c → ((d : List ℕ) → Passes d → d ≡ c) → tried ≡ some c
+  pub tried_one : (c : List ℕ) → Passes c → ((d : List ℕ) → Passes d → d ≡ c) → tried ≡ Some c
   tried_one c p one = go tried refl
     where
-      go : (o : Option (List ℕ)) → tried ≡ o → tried ≡ some c
-      go none e = absurd (tried_none e c p)
-      go (some d) e = e ∙ ap some (one d (tried_is d e))
+      go : (o : Option (List ℕ)) → tried ≡ o → tried ≡ Some c
+      go None e = absurd (tried_none e c p)
+      go (Some d) e = e ∙ ap Some (one d (tried_is d e))

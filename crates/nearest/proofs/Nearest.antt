@@ -2,13 +2,13 @@
 -- (`-one`, from `one_near` of reed_solomon).
 use mathlib.Core.Path.{◌≡◌, refl, sym, ap}
 use mathlib.Core.Bool.{Bool, true, false, ◌&&◌, false≢true}
-use mathlib.Core.Option.{Option, none, some}
+use Rattle.std.specs.Prelude.{Option, None, Some, is_some}
 use mathlib.Core.List.{List}
 use Prim.Native.Nat.{ℕ}
 use borrow.Author.Tests.{leb-true, le-leb}
 use lib.Dec.{leb}
 use lib.ListN.{length}
-use Rattle.basics.specs.Lists.{zeros, Bytes, is_some}
+use Rattle.basics.specs.Lists.{zeros, Bytes}
 use Rattle.basics.proofs.Tests.{both_true, left_true, right_true}
 use Rattle.reed_solomon.specs.Code.{remainder_of, is_codeword, lengthened}
 use Rattle.reed_solomon.proofs.Laws.{Codeword, codeword_true, true_codeword, codeword_length}
@@ -18,19 +18,19 @@ use Rattle.nearest.proofs.Nearness.{NearHeader, NearWord, self_near, one_header,
 
 -- ---- what an answer says
 
-pub found_answer : (near : Option (List ℕ)) (own c : List ℕ) → near ≡ some c → (true ≡ is_some near) × (c ≡ or_own near own)
+pub found_answer : (near : Option (List ℕ)) (own c : List ℕ) → near ≡ Some c → (true ≡ is_some near) × (c ≡ or_own near own)
 found_answer near own c e = (ap is_some (sym e), ap (λ (o : Option (List ℕ)). or_own o own) (sym e))
 
-pub found_is : (near : Option (List ℕ)) (own : List ℕ) → is_some near ≡ true → near ≡ some (or_own near own)
-found_is none own t = absurd (false≢true t)
-found_is (some c) own t = refl
+pub found_is : (near : Option (List ℕ)) (own : List ℕ) → is_some near ≡ true → near ≡ Some (or_own near own)
+found_is None own t = absurd (false≢true t)
+found_is (Some c) own t = refl
 
-pub none_answer : (near : Option (List ℕ)) (own : List ℕ) → near ≡ none → (false ≡ is_some near) × (own ≡ or_own near own)
+pub none_answer : (near : Option (List ℕ)) (own : List ℕ) → near ≡ None → (false ≡ is_some near) × (own ≡ or_own near own)
 none_answer near own e = (ap is_some (sym e), ap (λ (o : Option (List ℕ)). or_own o own) (sym e))
 
-pub nothing : (near : Option (List ℕ)) → ((c : List ℕ) → near ≡ some c → ⊥) → near ≡ none
-nothing none f = refl
-nothing (some c) f = absurd (f c refl)
+pub nothing : (near : Option (List ℕ)) → ((c : List ℕ) → near ≡ Some c → ⊥) → near ≡ None
+nothing None f = refl
+nothing (Some c) f = absurd (f c refl)
 
 -- ---- words
 
@@ -50,24 +50,24 @@ module _ (w : List ℕ) (long : length w ≡ 255) where
       let few = leb (differences c w) 8 in
       (p.0, left_true code few p.2, leb-true (differences c w) 8 (right_true code few p.2))
 
-  pub near_is : (c : List ℕ) → near_word w ≡ some c → NearWord w c
+  pub near_is : (c : List ℕ) → near_word w ≡ Some c → NearWord w c
   unfolding near_word
   near_is c e = passed c (tried_is 255 is_near c e)
 
-  pub near_none : near_word w ≡ none → (c : List ℕ) → NearWord w c → ⊥
+  pub near_none : near_word w ≡ None → (c : List ℕ) → NearWord w c → ⊥
   unfolding near_word
   near_none e c n = tried_none 255 is_near e c (passes c n)
 
-  pub near_one : (c : List ℕ) → NearWord w c → near_word w ≡ some c
+  pub near_one : (c : List ℕ) → NearWord w c → near_word w ≡ Some c
   unfolding near_word
   near_one c n = tried_one 255 is_near c (passes c n) (λ d p. one_word w d c long (passed d p) n)
 
   -- where no codeword is near, none is found
-  pub near_nothing : ((c : List ℕ) → NearWord w c → ⊥) → near_word w ≡ none
+  pub near_nothing : ((c : List ℕ) → NearWord w c → ⊥) → near_word w ≡ None
   near_nothing f = nothing (near_word w) (λ c e. f c (near_is c e))
 
   -- a word that division leaves nothing of is the one near itself
-  pub clean : Bytes w → remainder_of w ≡ zeros 16 → near_word w ≡ some w
+  pub clean : Bytes w → remainder_of w ≡ zeros 16 → near_word w ≡ Some w
   unfolding Codeword
   clean hw e = near_one w (hw, codeword_true w (long, e), self_near w)
 
@@ -89,14 +89,14 @@ module _ (h : List ℕ) (long : length h ≡ 32) where
       let few = leb (differences c h) 8 in
       (p.0, p.1, left_true code few p.2, leb-true (differences c h) 8 (right_true code few p.2))
 
-  pub header_is : (c : List ℕ) → near_header h ≡ some c → NearHeader h c
+  pub header_is : (c : List ℕ) → near_header h ≡ Some c → NearHeader h c
   unfolding near_header
   header_is c e = header_passed c (tried_is 32 is_near_header c e)
 
-  pub header_none : near_header h ≡ none → (c : List ℕ) → NearHeader h c → ⊥
+  pub header_none : near_header h ≡ None → (c : List ℕ) → NearHeader h c → ⊥
   unfolding near_header
   header_none e c n = tried_none 32 is_near_header e c (header_passes c n)
 
-  pub header_one : (c : List ℕ) → NearHeader h c → near_header h ≡ some c
+  pub header_one : (c : List ℕ) → NearHeader h c → near_header h ≡ Some c
   unfolding near_header
   header_one c n = tried_one 32 is_near_header c (header_passes c n) (λ d p. one_header h d c long (header_passed d p) n)

@@ -4,20 +4,19 @@
 --   repaired_word, repaired_header    it, or the word itself where none is that near
 --   differences                     how many places of two lists differ
 --   first_word                       the first answer of a question that is asked of all lists of n bytes
-use Rattle.std.specs.Prelude.{Bool, ◌&&◌, cond, List, [], ◌∷◌, ℕ, zero, suc, ◌+◌, eqb, leb}
-use Rattle.std.proofs.Math.Option.{Option, none, some}
+use Rattle.std.specs.Prelude.{Bool, ◌&&◌, cond, List, [], ◌∷◌, ℕ, zero, suc, ◌+◌, eqb, leb, Option, Some, None}
 use Rattle.reed_solomon.specs.Code.{is_codeword, lengthened}
 
 -- ---- trying all words
 
 -- the first of two answers, or the second where the first is none
 abbrev pub or_else : Option (List ℕ) → Option (List ℕ) → Option (List ℕ)
-or_else none other = other
-or_else (some answer) other = some answer
+or_else None other = other
+or_else (Some answer) other = Some answer
 
 -- the first answer to a question, asked of the numbers below n
 unfoldable pub first_below : ℕ → (ℕ → Option (List ℕ)) → Option (List ℕ)
-first_below zero ask = none
+first_below zero ask = None
 first_below (suc n) ask = or_else (first_below n ask) (ask n)
 
 -- the first answer to a question, asked of all lists of n bytes
@@ -27,7 +26,7 @@ first_word (suc n) ask = first_below 256 (λ byte. first_word n (λ bytes. ask (
 
 -- a word that passes a test answers itself
 abbrev pub answered : Bool → List ℕ → Option (List ℕ)
-answered passes word = cond passes (some word) none
+answered passes word = cond passes (Some word) None
 
 -- ---- near a word
 
@@ -49,8 +48,8 @@ near_header header = first_word 32 (λ tried. answered (is_codeword (lengthened 
 
 -- what is near, or what came
 abbrev pub or_own : Option (List ℕ) → List ℕ → List ℕ
-or_own none own = own
-or_own (some near) own = near
+or_own None own = own
+or_own (Some near) own = near
 
 -- a payload word and a coded header as repaired: as they came where no codeword is that near
 unfoldable pub repaired_word : List ℕ → List ℕ

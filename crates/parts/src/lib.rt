@@ -1,8 +1,8 @@
 // Parts of the work on a frame, for C to call: bench/run counts the instructions of each. The library's own calls for C stand in `taqwelim`.
 #![tactic(auto)]
 
-ghost use Rattle.std.specs.Prelude.{◌≡◌, length};
-ghost use Rattle.basics.specs.Lists.{Bytes, is_some};
+ghost use Rattle.std.specs.Prelude.{◌≡◌, length, is_some};
+ghost use Rattle.basics.specs.Lists.{Bytes};
 ghost use Rattle.reed_solomon.specs.Code.{remainder_of};
 ghost use Rattle.nearest.specs.Near.{near_word, repaired_word};
 ghost use Rattle.header.specs.Header.{flag_bit};
@@ -66,14 +66,14 @@ pub extern "C" fn part_repair_word(word: &mut [u8], remainder: &[u8]) -> u8
     ensures bytes { word.new ≡ repaired_word word.old }
 {
     let mut own = [0u8; 255];
-    lent::write_at(&mut own, 0, word);
+    own.copy_from_slice(word);
     let mut left = [0u8; 16];
-    lent::write_at(&mut left, 0, remainder);
+    left.copy_from_slice(remainder);
     let near = nearest::repair_word(own, left);
-    let found = near.found;
-    let repaired = near.word;
-    lent::write_at(word, 0, &repaired);
-    u8::from(found)
+    if let Some(repaired) = near {
+        word.copy_from_slice(&repaired);
+    }
+    u8::from(near.is_some())
 }
 
 // DATA, frame 0, and nothing else to tell.

@@ -2,7 +2,7 @@
 -- at all is coded and that near.
 use mathlib.Core.Path.{◌≡◌, sym, ap, ap₂, ◌∙◌, subst}
 use mathlib.Core.Bool.{true}
-use mathlib.Core.Option.{Option, some}
+use Rattle.std.specs.Prelude.{Option, Some, is_some}
 use mathlib.Core.List.{List, ◌++◌}
 use Prim.Native.Nat.{ℕ, ◌+◌, ◌-◌, ◌*◌, ◌/◌, ◌%◌, ◌≤◌, ◌<◌}
 use native.Mathlib.Nat.{mod-lt}
@@ -10,7 +10,7 @@ use native.Mathlib.Omega.{arith}
 use lib.Dec.{lit<}
 use lib.ListN.{length, get_or, take, drop, length-drop, take-append-drop}
 use lib.Seq.{ext_get_or, length-take-le, take_at, drop_at}
-use Rattle.basics.specs.Lists.{Bytes, is_some}
+use Rattle.basics.specs.Lists.{Bytes}
 use Rattle.basics.proofs.Lists.{byte_at_lem, bytes_take, bytes_drop, bytes_append, bytes_entries}
 use Rattle.basics.proofs.Tests.{all_below_lem, below_true}
 use Rattle.reed_solomon.specs.Code.{is_codeword, lengthened}
@@ -39,12 +39,12 @@ turned a b h = subst (λ (n : ℕ). n ≤ 8) (differ_sym a b) h
 -- ---- what was coded, repaired
 
 module _ (came sent : List ℕ) (long : length came ≡ 2072) (coded : Coded sent) (near : NearPart came sent) where
-  header_sent : near_header (take 32 came) ≡ some (take 32 sent)
+  header_sent : near_header (take 32 came) ≡ Some (take 32 sent)
   header_sent =
       header_one (take 32 came) (header_size came long) (take 32 sent)
       (bytes_take 32 sent coded.bytes, header_size sent coded.long, coded.header, turned (take 32 came) (take 32 sent) near.header_near)
 
-  word_sent : (k : ℕ) → k < 8 → near_word (every_eighth 255 k (drop 32 came)) ≡ some (every_eighth 255 k (drop 32 sent))
+  word_sent : (k : ℕ) → k < 8 → near_word (every_eighth 255 k (drop 32 came)) ≡ Some (every_eighth 255 k (drop 32 sent))
   word_sent k h =
       let word = every_eighth 255 k (drop 32 came) in
       let own = every_eighth 255 k (drop 32 sent) in
@@ -108,7 +108,7 @@ module _ (came : List ℕ) (long : length came ≡ 2072) where
   }
 
   module _ (header : is_some (near_header (take 32 came)) ≡ true) (words : words_near (drop 32 came) ≡ true) where
-    header_found : near_header (take 32 came) ≡ some (repaired_header (take 32 came))
+    header_found : near_header (take 32 came) ≡ Some (repaired_header (take 32 came))
     unfolding repaired_header
     header_found = found_is (near_header (take 32 came)) (take 32 came) header
 

@@ -1,6 +1,6 @@
 -- At most 8 bytes of the header and of each of the eight words are repaired, so at most 72 in all.
 use mathlib.Core.Path.{◌≡◌, refl, sym, ap, ◌∙◌, subst}
-use mathlib.Core.Option.{Option, none, some}
+use Rattle.std.specs.Prelude.{Option, None, Some}
 use mathlib.Core.List.{List, ◌++◌}
 use Prim.Native.Nat.{ℕ, zero, suc, ◌+◌, ◌-◌, ◌*◌, ◌≤◌, ◌<◌}
 use native.Mathlib.Nat.{zero-add}
@@ -86,9 +86,9 @@ module _ (l m : List ℕ) where
 
 -- ---- a word, the header, the whole
 
-few_of_own : (own : List ℕ) (near : Option (List ℕ)) → ((c : List ℕ) → near ≡ some c → differences c own ≤ 8) → differences (or_own near own) own ≤ 8
-few_of_own own none few = self_near own
-few_of_own own (some c) few = few c refl
+few_of_own : (own : List ℕ) (near : Option (List ℕ)) → ((c : List ℕ) → near ≡ Some c → differences c own ≤ 8) → differences (or_own near own) own ≤ 8
+few_of_own own None few = self_near own
+few_of_own own (Some c) few = few c refl
 
 pub word_few : (word : List ℕ) → length word ≡ 255 → differences (repaired_word word) word ≤ 8
 unfolding repaired_word

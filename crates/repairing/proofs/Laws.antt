@@ -1,4 +1,5 @@
 -- The call: how the numbers that `repair` goes by are the table's, its count that of the body and at most 72; and that what is shown then is what was repaired.
+use Rattle.std.specs.Prelude.{is_some}
 use mathlib.Core.Path.{◌≡◌, refl, sym, ap, ap₂, ◌∙◌}
 use mathlib.Core.Bool.{Bool, true, false, cond, ◌&&◌}
 use mathlib.Core.List.{List, [], ◌∷◌}
@@ -7,7 +8,6 @@ use native.Mathlib.Omega.{arith}
 use borrow.Author.Tests.{eqb-true, leb-true, le-leb}
 use lib.Dec.{eqb, leb, lit<}
 use lib.ListN.{length, take, drop, length-take}
-use Rattle.basics.specs.Lists.{is_some}
 use Rattle.basics.proofs.Tests.{left_true, right_true}
 use Rattle.refusals.specs.Table.{Row, ◌unless◌, first_of}
 use Rattle.refusals.proofs.Table.{unless_passed, first_earlier, first_later, accepted}

@@ -1,6 +1,6 @@
 -- How long a repaired header, and a repaired body, is.
 use mathlib.Core.Path.{◌≡◌, refl, ap, ap₂, ◌∙◌}
-use mathlib.Core.Option.{Option, none, some}
+use Rattle.std.specs.Prelude.{Option, None, Some}
 use mathlib.Core.List.{List}
 use Prim.Native.Nat.{ℕ, ◌+◌}
 use native.Mathlib.Omega.{arith}
@@ -16,8 +16,8 @@ unfolding repaired_header
 header_length header long = go (near_header header) refl
   where
     go : (near : Option (List ℕ)) → near_header header ≡ near → length (or_own (near_header header) header) ≡ 32
-    go none e = ap (λ (near : Option (List ℕ)). length (or_own near header)) e ∙ long
-    go (some c) e = ap (λ (near : Option (List ℕ)). length (or_own near header)) e ∙ (header_is header long c e).1
+    go None e = ap (λ (near : Option (List ℕ)). length (or_own near header)) e ∙ long
+    go (Some c) e = ap (λ (near : Option (List ℕ)). length (or_own near header)) e ∙ (header_is header long c e).1
 
 module _ (body : List ℕ) (long : length body ≡ 2072) where
   pub front_length : length (repaired_header (take 32 body)) ≡ 32

@@ -1,5 +1,6 @@
 -- The two theorems of the call: exactly a part that is near a coded one is repaired, and to that one: it is what is shown, and the count is of the places where
 -- the two differ.
+use Rattle.std.specs.Prelude.{is_some}
 use mathlib.Core.Path.{◌≡◌, sym, ap, ◌∙◌, subst}
 use mathlib.Core.Bool.{true}
 use mathlib.Core.List.{List, []}
@@ -7,7 +8,6 @@ use Prim.Native.Nat.{ℕ}
 use borrow.Author.Tests.{eq-eqb, le-leb}
 use lib.Dec.{lit<}
 use lib.ListN.{length, take, drop}
-use Rattle.basics.specs.Lists.{is_some}
 use Rattle.refusals.specs.Table.{first_of}
 use Rattle.refusals.proofs.Table.{unless_passed}
 use Rattle.scrambler.specs.Scrambler.{scrambled}

@@ -2,7 +2,7 @@
 use mathlib.Core.Path.{◌≡◌, refl, sym, ap, ap₂, ◌∙◌, subst}
 use mathlib.Core.Logic.{⊎_elim}
 use mathlib.Core.Bool.{Bool, true, false, ◌&&◌}
-use mathlib.Core.Option.{Option, none, some}
+use Rattle.std.specs.Prelude.{Option, None, Some}
 use mathlib.Core.List.{List}
 use Prim.Native.Nat.{ℕ, zero, suc, ◌+◌, ◌*◌, ◌/◌, ◌%◌, ◌≤◌, ◌<◌}
 use native.Mathlib.Nat.{not-suc-le-zero, le_of_suc-le-suc, zero-add, eq-or-lt_of_le, mod-lt, le_refl}
@@ -31,8 +31,8 @@ unfolding repaired_word
 repaired_word_length word long = go (near_word word) refl
   where
     go : (near : Option (List ℕ)) → near_word word ≡ near → length (or_own (near_word word) word) ≡ 255
-    go none e = ap (λ (near : Option (List ℕ)). length (or_own near word)) e ∙ long
-    go (some c) e =
+    go None e = ap (λ (near : Option (List ℕ)). length (or_own near word)) e ∙ long
+    go (Some c) e =
         ap (λ (near : Option (List ℕ)). length (or_own near word)) e ∙ codeword_length c (true_codeword c (near_is word long c e).1)
 
 pub word_length : (k : ℕ) (l : List ℕ) → length (repaired_word (every_eighth 255 k l)) ≡ 255

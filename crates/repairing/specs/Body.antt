@@ -1,6 +1,6 @@
 -- The 2,072 bytes after a preamble, unscrambled, as they are repaired (02, M-101): the coded header of 32 bytes, then a payload of 2,040 with its eight words.
-use Rattle.std.specs.Prelude.{Bool, List, [], ◌∷◌, ◌++◌, ℕ, ◌/◌, ◌%◌, get_or, take, drop}
-use Rattle.basics.specs.Lists.{entries, all_below, is_some}
+use Rattle.std.specs.Prelude.{Bool, List, [], ◌∷◌, ◌++◌, ℕ, ◌/◌, ◌%◌, get_or, take, drop, is_some}
+use Rattle.basics.specs.Lists.{entries, all_below}
 use Rattle.refusals.specs.Table.{Row, ◌unless◌}
 use Rattle.reed_solomon.specs.Payload.{every_eighth}
 use Rattle.nearest.specs.Near.{near_word, near_header, repaired_word, repaired_header}

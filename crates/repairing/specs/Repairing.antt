@@ -1,14 +1,14 @@
 -- The call that repairs the 2,072 bytes after a preamble, scrambled as they arrive (02, M-101): its refusals 1, 2, 8 and 12, its answer, what it leaves in the
 -- lent scratch, and the bytes that are then handed back, with the place where they stand.
-use Rattle.std.specs.Prelude.{◌≡◌, cond, ◌&&◌, List, [], ◌∷◌, ℕ, eqb, leb, length, take}
+use Rattle.std.specs.Prelude.{◌≡◌, cond, ◌&&◌, List, [], ◌∷◌, ℕ, eqb, leb, length, take, Result, Ok, Err}
 use Rattle.std.specs.Borrow.{Bor}
-use Rattle.refusals.specs.Table.{Row, ◌unless◌, first_of, by, answer_by}
+use Rattle.refusals.specs.Numbers.{answer_by}
+use Rattle.refusals.specs.Table.{Row, ◌unless◌, first_of, by}
+use Rattle.refusals.specs.declared.Refusal.{Refusal}
 use Rattle.lent.specs.Written.{written}
 use Rattle.scrambler.specs.Scrambler.{taps_allowed, scrambled}
 use Rattle.nearest.specs.Near.{differences}
 use Rattle.repairing.specs.Body.{near_table, repaired_body}
-use Rattle.repairing.specs.declared.RepairAnswer.{RepairAnswer}
-use Rattle.repairing.specs.declared.RepairAnswer.TheVariants.{Repaired, Refused}
 
 -- the part as repaired, scrambled as it came; and how many bytes were wrong: the places where the two differ
 unfoldable pub repaired : ℕ → List ℕ → List ℕ
@@ -28,21 +28,16 @@ unfoldable pub repair_refusal : ℕ → List ℕ → List ℕ → ℕ
 repair_refusal taps part scratch = first_of (repair_table taps part scratch)
 
 -- the answer of `repair`, and the scratch after it: as it was where no byte was wrong and where the call is refused
-pub record RepairOutcome (taps : ℕ) (part before : List ℕ) (r : RepairAnswer) (after : List ℕ) : Type 0 where
-  pub answer : r ≡ answer_by (repair_refusal taps part before) (Repaired (wrong_bytes taps part)) Refused
+pub record RepairOutcome (taps : ℕ) (part before : List ℕ) (r : Result ℕ Refusal) (after : List ℕ) : Type 0 where
+  pub answer : r ≡ answer_by (repair_refusal taps part before) (wrong_bytes taps part)
   pub bytes : after
       ≡ by (repair_refusal taps part before) (cond (eqb (wrong_bytes taps part) 0) before (written before 0 (repaired taps part))) before
 
 -- the bytes that `shown` hands back, and where they stand: the part's own where the count is 0, otherwise the scratch's first 2,072; none at a refusal
-unfoldable pub shown_bytes : RepairAnswer → List ℕ → List ℕ → List ℕ
-shown_bytes (Repaired count) part scratch = cond (eqb count 0) part (cond (leb 2072 (length scratch)) (take 2072 scratch) [])
-shown_bytes (Refused number) part scratch = []
+unfoldable pub shown_bytes : Result ℕ Refusal → List ℕ → List ℕ → List ℕ
+shown_bytes (Ok count) part scratch = cond (eqb count 0) part (cond (leb 2072 (length scratch)) (take 2072 scratch) [])
+shown_bytes (Err refusal) part scratch = []
 
-unfoldable pub shown_place : RepairAnswer → Bor (List ℕ) → Bor (List ℕ) → ℕ × ℕ
-shown_place (Repaired count) part scratch = cond (eqb count 0) part.ref_ptr scratch.ref_ptr
-shown_place (Refused number) part scratch = part.ref_ptr
-
--- the paper's number for each case of the answer (01, last section)
-abbrev pub repair_number : RepairAnswer → ℕ
-repair_number (Repaired count) = 0
-repair_number (Refused number) = number
+unfoldable pub shown_place : Result ℕ Refusal → Bor (List ℕ) → Bor (List ℕ) → ℕ × ℕ
+shown_place (Ok count) part scratch = cond (eqb count 0) part.ref_ptr scratch.ref_ptr
+shown_place (Err refusal) part scratch = part.ref_ptr

@@ -1,7 +1,6 @@
 -- What the code does to the words of a payload, one after the other, and how it answers for a body. Contracts of functions below the calls cite it; `Body` says
 -- what a repaired body is.
-use Rattle.std.specs.Prelude.{◌≡◌, List, ℕ, take, drop}
-use Rattle.basics.specs.Lists.{is_some}
+use Rattle.std.specs.Prelude.{◌≡◌, List, ℕ, take, drop, is_some}
 use Rattle.reed_solomon.specs.Payload.{every_eighth}
 use Rattle.reed_solomon.specs.Rows.{spread}
 use Rattle.nearest.specs.Near.{near_header, repaired_word, differences}

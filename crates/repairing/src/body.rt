@@ -1,6 +1,6 @@
 // A body, which is what follows a preamble with the scrambler's bits taken off: its coded header and its eight words, repaired where they stand.
-ghost use Rattle.std.specs.Prelude.{◌≡◌, ◌<◌, ◌≤◌, length, take, drop};
-ghost use Rattle.basics.specs.Lists.{zeros, same, entries, is_some};
+ghost use Rattle.std.specs.Prelude.{◌≡◌, ◌<◌, length, take, drop, is_some};
+ghost use Rattle.basics.specs.Lists.{entries};
 ghost use Rattle.lent.specs.Written.{written};
 ghost use Rattle.reed_solomon.specs.Code.{remainder_of, lengthened};
 ghost use Rattle.reed_solomon.specs.Payload.{every_eighth};
@@ -11,6 +11,7 @@ ghost use Rattle.repairing.specs.Words.{with_word, BodyOutcome};
 
 use reed_solomon::interleaving;
 
+// Facts beside one another, and no Result: `open` asks for the header's check sum and its fields between the two, and counts the wrong bytes of what passes.
 #[derive(Clone, Copy)]
 pub struct BodyAnswer {
     // Whether a codeword is near the coded header.
@@ -22,41 +23,27 @@ pub struct BodyAnswer {
 }
 
 // Repairs a body. All words are tested first; the search is for those alone that are no codewords.
-pub fn repair_body(body: &mut [u8]) -> BodyAnswer
-    requires { length body.old ≡ 2072 }
+pub fn repair_body(body: &mut [u8; 2072]) -> BodyAnswer
     ensures { BodyOutcome body.old result body.new }
 {
     let header = reed_solomon::remainder_of(&body[..32]);
     let words = interleaving::remainders(&body[32..]);
-    if are_zeros(&header) {
-        if are_zeros(&words) {
-            return BodyAnswer {
-                header: true,
-                words: true,
-                wrong: 0,
-            };
-        }
+    if lent::are_zeros(&header) && lent::are_zeros(&words) {
+        return BodyAnswer {
+            header: true,
+            words: true,
+            wrong: 0,
+        };
     }
     repair_damaged(body, header, words)
 }
 
-// Whether division left nothing; of the header or of all eight words, whose remainders have 128 bytes.
-fn are_zeros(bytes: &[u8]) -> bool
-    requires { length bytes.now ≤ 128 }
-    ensures { result ≡ same bytes.now (zeros (length bytes.now)) }
-{
-    let none = [0u8; 128];
-    lent::are_same(bytes, &none[..bytes.len()])
-}
-
 // The same, where something is wrong: given what division leaves of the coded header and of the eight words.
-fn repair_damaged(body: &mut [u8], header: [u8; 16], words: [u8; 128]) -> BodyAnswer
-    requires { (length body.old ≡ 2072) × (header ≡ remainder_of (lengthened (take 32 body.old)))
-        × (words ≡ entries (remainder_byte (drop 32 body.old)) 0 128) }
+fn repair_damaged(body: &mut [u8; 2072], header: [u8; 16], words: [u8; 128]) -> BodyAnswer
+    requires { (header ≡ remainder_of (lengthened (take 32 body.old))) × (words ≡ entries (remainder_byte (drop 32 body.old)) 0 128) }
     ensures { BodyOutcome body.old result body.new }
 {
-    let mut arrived = [0u8; 2072];
-    lent::write_at(&mut arrived, 0, body);
+    let arrived = *body;
     let header_near = repair_header(body, header);
     let words_near = repair_words(&mut body[32..], words);
     let wrong = count_differences(&arrived, body);
@@ -68,18 +55,18 @@ fn repair_damaged(body: &mut [u8], header: [u8; 16], words: [u8; 128]) -> BodyAn
 }
 
 // The coded header at the front of a body, repaired where it stands; and whether a codeword is near it.
-fn repair_header(body: &mut [u8], remainder: [u8; 16]) -> bool
-    requires { (length body.old ≡ 2072) × (remainder ≡ remainder_of (lengthened (take 32 body.old))) }
+fn repair_header(body: &mut [u8; 2072], remainder: [u8; 16]) -> bool
+    requires { remainder ≡ remainder_of (lengthened (take 32 body.old)) }
     ensures { (result ≡ is_some (near_header (take 32 body.old)))
         × (body.new ≡ written body.old 0 (repaired_header (take 32 body.old))) }
 {
     let mut own = [0u8; 32];
-    lent::write_at(&mut own, 0, &body[..32]);
-    let near = nearest::repair_header(own, remainder);
-    let found = near.found;
-    let header = near.header;
+    own.copy_from_slice(&body[..32]);
+    let Some(header) = nearest::repair_header(own, remainder) else {
+        return false;
+    };
     lent::write_at(body, 0, &header);
-    found
+    true
 }
 
 // The eight words of a payload repaired; and whether a codeword is near each.
@@ -88,14 +75,11 @@ fn repair_words(payload: &mut [u8], remainders: [u8; 128]) -> bool
     ensures { (result ≡ words_near payload.old) × (payload.new ≡ repaired_payload payload.old) }
 {
     let mut all = true;
-    let mut k = 0;
-    while k < 8 {
-        let remainder = remainder_in(remainders, k);
-        let found = repair_word(payload, remainder, k);
+    for k in 0..8 {
+        let found = repair_word(payload, remainder_in(remainders, k), k);
         if !found {
             all = false;
         }
-        k += 1;
     }
     all
 }
@@ -105,13 +89,7 @@ fn remainder_in(remainders: [u8; 128], k: usize) -> [u8; 16]
     requires { k < 8 }
     ensures { result ≡ every_eighth 16 k remainders }
 {
-    let mut remainder = [0u8; 16];
-    let mut j = 0;
-    while j < 16 {
-        remainder[j] = remainders[k + 8 * j];
-        j += 1;
-    }
-    remainder
+    std::array::from_fn(|j| remainders[k + 8 * j])
 }
 
 // Word k repaired where it stands; and whether a codeword is near it. A word of which division leaves nothing is not searched.
@@ -120,15 +98,15 @@ fn repair_word(payload: &mut [u8], remainder: [u8; 16], k: usize) -> bool
     ensures { (result ≡ is_some (near_word (every_eighth 255 k payload.old)))
         × (payload.new ≡ with_word k payload.old) }
 {
-    if are_zeros(&remainder) {
+    if lent::are_zeros(&remainder) {
         return true;
     }
     let own = interleaving::gathered(payload, k);
-    let near = nearest::repair_word(own, remainder);
-    let found = near.found;
-    let repaired = near.word;
-    write_word(payload, repaired, k);
-    found
+    let Some(word) = nearest::repair_word(own, remainder) else {
+        return false;
+    };
+    write_word(payload, word, k);
+    true
 }
 
 // Writes word k: its bytes are every eighth.
@@ -136,25 +114,14 @@ fn write_word(payload: &mut [u8], word: [u8; 255], k: usize)
     requires { (k < 8) × (length payload.old ≡ 2040) }
     ensures { payload.new ≡ spread word k payload.old }
 {
-    let mut j = 0;
-    while j < 255 {
+    for j in 0..255 {
         payload[k + 8 * j] = word[j];
-        j += 1;
     }
 }
 
 // How many bytes of two bodies differ.
-fn count_differences(a: &[u8], b: &[u8]) -> usize
-    requires { (length a.now ≡ 2072) × (length b.now ≡ 2072) }
+fn count_differences(a: &[u8; 2072], b: &[u8; 2072]) -> usize
     ensures { result ≡ differences a.now b.now }
 {
-    let mut count: usize = 0;
-    let mut i: usize = 0;
-    while i < 2072 {
-        if a[i] != b[i] {
-            count += 1;
-        }
-        i += 1;
-    }
-    count
+    a.iter().zip(b).filter(|(x, y)| x != y).count()
 }

@@ -4,94 +4,80 @@
 pub mod body;
 
 ghost use Rattle.std.specs.Prelude.{◌≡◌, cond, [], ◌∷◌, ◌≤◌, eqb, length, take};
-ghost use Rattle.refusals.specs.Table.{◌unless◌, first_of, by};
+ghost use Rattle.refusals.specs.Numbers.{judged_by};
+ghost use Rattle.refusals.specs.Table.{◌unless◌, first_of};
 ghost use Rattle.lent.specs.Written.{written};
 ghost use Rattle.scrambler.specs.Scrambler.{scrambled};
 ghost use Rattle.repairing.specs.Repairing.{repair_table, RepairOutcome, shown_bytes, shown_place};
 
-#[derive(Clone, Copy)]
-pub enum RepairAnswer {
-    // How many bytes were wrong.
-    Repaired(u8),
-    Refused(u8),
-}
+use refusals::Refusal;
 
 // Repairs the 2,072 bytes after a preamble, and answers how many of them were wrong. Where none was, the scratch keeps its bytes; otherwise all of them as
 // repaired, scrambled as they came, are written to its front. Refusals: 1, 2, 8, 12.
-pub fn repair(taps: u32, part: &[u8], scratch: &mut [u8]) -> RepairAnswer
+pub fn repair(taps: u32, part: &[u8], scratch: &mut [u8]) -> Result<u8, Refusal>
     ensures { RepairOutcome taps part.now scratch.old result scratch.new }
 {
-    let outer = outer_refusal(taps, part, scratch);
-    if outer != 0 {
-        return RepairAnswer::Refused(outer);
-    }
+    judge_outer(taps, part, scratch)?;
     let mut body = [0u8; 2072];
-    lent::write_at(&mut body, 0, part);
+    body.copy_from_slice(part);
     scrambler::scramble(taps, &mut body);
     let near = body::repair_body(&mut body);
-    let inner = inner_refusal(near.header, near.words);
-    write_repaired(inner, near.wrong, taps, body, scratch);
-    if inner != 0 {
-        return RepairAnswer::Refused(inner);
+    judge_near(near.header, near.words)?;
+    if near.wrong != 0 {
+        write_scrambled(taps, body, scratch);
     }
-    RepairAnswer::Repaired(near.wrong)
+    Ok(near.wrong)
+}
+
+// 1 and 2.
+fn judge_outer(taps: u32, part: &[u8], scratch: &[u8]) -> Result<(), Refusal>
+    ensures { result ≡ judged_by (first_of (take 2 (repair_table taps part.now scratch.now))) }
+{
+    if !scrambler::are_taps(taps) {
+        return Err(Refusal::Taps);
+    }
+    if part.len() != 2072 || scratch.len() < 2072 {
+        return Err(Refusal::Size);
+    }
+    Ok(())
 }
 
 // 8 and 12.
-fn inner_refusal(header: bool, words: bool) -> u8
-    ensures { result ≡ first_of (8 unless header ∷ 12 unless words ∷ []) }
+fn judge_near(header: bool, words: bool) -> Result<(), Refusal>
+    ensures { result ≡ judged_by (first_of (8 unless header ∷ 12 unless words ∷ [])) }
 {
     if !header {
-        return 8;
+        return Err(Refusal::CodedHeader);
     }
-    if words { 0 } else { 12 }
+    if !words {
+        return Err(Refusal::PayloadWord);
+    }
+    Ok(())
 }
 
-// Writes the repaired body, scrambled again, to the front of the scratch, where nothing is refused and something was wrong.
-fn write_repaired(refusal: u8, wrong: u8, taps: u32, body: [u8; 2072], scratch: &mut [u8])
+// Writes a body, scrambled again, to the front of the scratch.
+fn write_scrambled(taps: u32, body: [u8; 2072], scratch: &mut [u8])
     requires { 2072 ≤ length scratch.old }
-    ensures { scratch.new
-        ≡ by refusal (cond (eqb wrong 0) scratch.old (written scratch.old 0 (scrambled taps body))) scratch.old }
+    ensures { scratch.new ≡ written scratch.old 0 (scrambled taps body) }
 {
-    if refusal != 0 {
-        return;
-    }
-    if wrong == 0 {
-        return;
-    }
     let mut part = body;
     scrambler::scramble(taps, &mut part);
     lent::write_at(scratch, 0, &part);
 }
 
-// 1 and 2.
-fn outer_refusal(taps: u32, part: &[u8], scratch: &[u8]) -> u8
-    ensures { result ≡ first_of (take 2 (repair_table taps part.now scratch.now)) }
-{
-    if !scrambler::are_taps(taps) {
-        return 1;
-    }
-    if part.len() != 2072 {
-        return 2;
-    }
-    if scratch.len() < 2072 { 2 } else { 0 }
-}
-
 // The bytes after a repair: the part itself where nothing was wrong, otherwise the first 2,072 bytes of the scratch; none at a refusal.
-pub fn shown<'a>(answer: RepairAnswer, part: &'a [u8], scratch: &'a [u8]) -> &'a [u8]
+pub fn shown<'a>(answer: Result<u8, Refusal>, part: &'a [u8], scratch: &'a [u8]) -> &'a [u8]
     ensures result_value { result.now ≡ shown_bytes answer part.now scratch.now }
     ensures place { result.ref_ptr ≡ shown_place answer part.entry scratch.entry }
 {
     match answer {
-        RepairAnswer::Repaired(count) => {
-            if count == 0 {
-                return part;
-            }
+        Ok(0) => part,
+        Ok(_) => {
             if scratch.len() < 2072 {
                 return &scratch[0..0];
             }
             &scratch[0..2072]
         }
-        RepairAnswer::Refused(_) => &part[0..0],
+        Err(_) => &part[0..0],
     }
 }

@@ -1,6 +1,7 @@
 -- Word and remainder fill the arrays that they are copied to (`written_whole`); the word that `nearest::repair_word` gives fills the lent one.
+use Rattle.std.specs.Prelude.{is_some}
 use Rattle.std.proofs.Common.{◌≡◌, ℕ, List, length, sym, ap, subst, ◌∙◌}
-use Rattle.basics.specs.Lists.{Bytes, zeros, is_some}
+use Rattle.basics.specs.Lists.{Bytes, zeros}
 use Rattle.basics.proofs.Lists.{zeros_length}
 use Rattle.lent.specs.Written.{written}
 use Rattle.lent.proofs.Written.{written_whole}

@@ -1,11 +1,12 @@
 -- The copy is the header (`written_whole`), so that the search repairs the header; what it gives is written over it.
+use Rattle.std.specs.Prelude.{is_some}
 use native.Mathlib.Omega.{arith}
 use mathlib.Core.Path.{◌≡◌, sym, ap, ◌∙◌, subst}
 use mathlib.Core.List.{List}
 use Prim.Native.Nat.{ℕ}
 use lib.ListN.{length, take}
 use lib.Seq.{length-take-le}
-use Rattle.basics.specs.Lists.{zeros, Bytes, is_some}
+use Rattle.basics.specs.Lists.{zeros, Bytes}
 use Rattle.basics.proofs.Lists.{bytes_each, bytes_take}
 use Rattle.lent.specs.Written.{written}
 use Rattle.lent.proofs.Written.{written_whole}

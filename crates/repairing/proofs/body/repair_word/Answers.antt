@@ -1,10 +1,10 @@
 -- A word of which division leaves nothing is near itself (`clean`), so that the payload stays (`with_own`); another is gathered, searched and written back.
 use mathlib.Core.Path.{◌≡◌, sym, ap, ◌∙◌, subst}
 use mathlib.Core.List.{List}
-use mathlib.Core.Option.{some}
+use Rattle.std.specs.Prelude.{Some, is_some}
 use Prim.Native.Nat.{ℕ}
 use lib.ListN.{length}
-use Rattle.basics.specs.Lists.{zeros, Bytes, is_some}
+use Rattle.basics.specs.Lists.{zeros, Bytes}
 use Rattle.basics.proofs.Lists.{bytes_each}
 use Rattle.basics.proofs.Tests.{same_true}
 use Rattle.reed_solomon.specs.Code.{remainder_of}
@@ -21,7 +21,7 @@ use Rattle.repairing.proofs.body.repair_word.Goals as goal
 
 -- what is known of a word of which division leaves nothing
 near-own : (payload : List ℕ) (k : ℕ) (remainder : List ℕ) → Bytes payload → remainder ≡ remainder_of (every_eighth 255 k payload) → remainder ≡ zeros (length remainder)
-    → near_word (every_eighth 255 k payload) ≡ some (every_eighth 255 k payload)
+    → near_word (every_eighth 255 k payload) ≡ Some (every_eighth 255 k payload)
 near-own payload k remainder bytes is none =
     clean (every_eighth 255 k payload) (eighth_length 255 k payload) (eighth_bytes 255 k payload bytes) (sym is ∙ none ∙ ap (λ l. zeros (length l)) is ∙ ap zeros (word_remainder_length payload k))
 

@@ -1,10 +1,11 @@
 -- Word by word: those before k are repaired (`with_words`), and the others are as they were, so that what division left of them is still theirs (`word_kept`).
+use Rattle.std.specs.Prelude.{is_some}
 use native.Mathlib.Omega.{arith}
 use mathlib.Core.Path.{◌≡◌, refl, sym, ap, ◌∙◌}
 use mathlib.Core.Bool.{Bool}
 use Prim.Native.Nat.{ℕ, ◌<◌}
 use lib.ListN.{length}
-use Rattle.basics.specs.Lists.{all_below, is_some}
+use Rattle.basics.specs.Lists.{all_below}
 use Rattle.reed_solomon.specs.Code.{remainder_of}
 use Rattle.reed_solomon.specs.Payload.{every_eighth}
 use Rattle.reed_solomon.proofs.Remainders.{remainder_of_word}

@@ -1,8 +1,9 @@
 -- Word by word: those before k are repaired (`with_words`), and the others are as they were, so that what division left of them is still theirs (`word_kept`).
+use Rattle.std.specs.Prelude.{is_some}
 use mathlib.Core.Path.{◌≡◌}
 use Prim.Native.Nat.{◌-◌, ◌≤◌}
 use lib.ListN.{length}
-use Rattle.basics.specs.Lists.{entries, all_below, is_some}
+use Rattle.basics.specs.Lists.{entries, all_below}
 use Rattle.reed_solomon.specs.Payload.{every_eighth}
 use Rattle.reed_solomon.specs.Rows.{remainder_byte}
 use Rattle.nearest.specs.Near.{near_word}
