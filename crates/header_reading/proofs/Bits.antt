@@ -11,8 +11,7 @@ use Rattle.basics.specs.Lists.{same, entries}
 use Rattle.basics.specs.Numbers.{high_first}
 use Rattle.basics.proofs.Tests.{below, is_same}
 use Rattle.basics.proofs.Lists.{entries_rest}
-use Rattle.header.specs.Header.{flag_bit, kind_number, flags_byte}
-use Rattle.header_reading.specs.Reading.{kind_of}
+use Rattle.header.specs.Header.{flag_bit, kind_number, kind_of, flags_byte}
 use Rattle.header.specs.declared.FrameKind.{FrameKind}
 use Rattle.header.specs.declared.FrameKind.TheVariants.{Idle, Data, Type2, Type3}
 

@@ -5,24 +5,24 @@ use mathlib.Core.Logic.{◌↔◌}
 use mathlib.Core.Bool.{true}
 use mathlib.Core.List.{List}
 use Prim.Native.Nat.{ℕ}
+use Rattle.std.specs.Prelude.{Ok}
 use Rattle.basics.specs.Lists.{Bytes}
-use Rattle.refusals.proofs.Table.{accepted}
+use Rattle.refusals.proofs.Numbers.{answered}
 use Rattle.header.specs.Header.{ReservedBits, all_ones, header_bytes, header_bytes_with, header_fits}
 use Rattle.header_reading.specs.Reading.{header_of, reserved_in, read_refusal, read_header}
 use Rattle.header.specs.declared.Header.{Header}
-use Rattle.header_reading.specs.declared.ReadAnswer.TheVariants.{Read}
 use Rattle.header.proofs.Bytes.{header_length}
 use Rattle.header_reading.proofs.Calls.{read_length, read_by_content}
 use Rattle.header_reading.proofs.Sent.{sendable, header_back, ones_sent, none_refused}
 use Rattle.header_reading.proofs.Received.{received_fits, header_again}
 
 -- Reading what was coded gives the header back, for every header that may be sent and all reserved bits.
-pub read_of_coded : (reserved : ReservedBits) (header : Header) → header_fits header ≡ true → read_header (header_bytes_with reserved header) ≡ Read header
+pub read_of_coded : (reserved : ReservedBits) (header : Header) → header_fits header ≡ true → read_header (header_bytes_with reserved header) ≡ Ok header
 read_of_coded reserved header e =
     let bytes = header_bytes_with reserved header in
     let s = sendable header e in
     let none = read_by_content bytes (header_length reserved header) ∙ none_refused reserved header s in
-    sym (accepted (read_refusal bytes) _ _ _ _ refl none refl) ∙ ap (λ h. Read h) (header_back reserved header s)
+    sym (answered (read_refusal bytes) _ _ none (sym (header_back reserved header s)))
 
 -- Coding what was read with the reserved bits that came gives the same 16 bytes, for all bytes that are accepted; and what was read may be sent.
 pub coded_of_read : (bytes : List ℕ) → Bytes bytes → read_refusal bytes ≡ 0

@@ -1,5 +1,5 @@
 -- The code compares two numbers, the definition two lists of bytes: the same, since a CRC-16 is below 65,536 (`sum_same`).
-use Rattle.std.proofs.Common.{arith, take}
+use Rattle.std.proofs.Common.{◌≡◌, ◌+◌, ◌*◌, arith, take, get_or}
 use Rattle.crc.specs.Crc.{crc_16}
 use Rattle.crc.proofs.Bytes.{crc_16_lt}
 use Rattle.header_reading.specs.Reading.{sum_holds}
@@ -10,6 +10,6 @@ pub returns : goal.returns
 unfolding sum_holds
 returns c =
     let bytes = c.args.bytes.now in
-    let known = c.type_inv.bytes in
-    simp (c.crc_16-sum.ensures, c.two_bytes.ensures)
-    (sum_same (crc_16 (take 14 bytes)) bytes (crc_16_lt (take 14 bytes)) (omega (arith, known 14)) (omega (arith, known 15)) (omega arith))
+    let two : c.from_be_bytes.result ≡ get_or bytes 15 0 + 256 * get_or bytes 14 0 = omega arith in
+    simp (c.crc_16-sum.ensures, two)
+    (sum_same (crc_16 (take 14 bytes)) bytes (crc_16_lt (take 14 bytes)) (omega arith) (omega arith) (omega arith))

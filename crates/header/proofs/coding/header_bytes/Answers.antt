@@ -1,5 +1,5 @@
 -- 14 bytes of fields and the two of their CRC-16 fill the 16 (`fields_length`, `written_parts`).
-use Rattle.std.proofs.Common.{◌≡◌, refl, ap, ◌∙◌, List, [], ◌∷◌, ◌++◌, ℕ, length}
+use Rattle.std.proofs.Common.{◌≡◌, refl, ap, ◌∙◌, List, [], ◌∷◌, ◌++◌, ℕ, ◌+◌, length}
 use Rattle.std.proofs.Math.Nat.{div-one}
 use Rattle.basics.specs.Lists.{zeros}
 use Rattle.lent.specs.Written.{written}
@@ -16,4 +16,5 @@ returns c =
     let joined : fields ++ check ≡ header_bytes c.args.header =
     simp (c.to_be_bytes-check.ensures, c.crc_16.ensures, c.field_bytes-fields.ensures) in
     c.write_at-2.ensures ∙ ap (λ l. written l 14 check) c.write_at.ensures
-    ∙ written_parts (zeros 16) fields check 14 (ap length c.field_bytes-fields.ensures ∙ fields_length all_ones c.args.header) refl ∙ joined
+    ∙ written_parts (zeros 16) fields check 14 (ap length c.field_bytes-fields.ensures ∙ fields_length all_ones c.args.header)
+    (ap (λ l. 14 + length l) c.to_be_bytes-check.ensures) ∙ joined
