@@ -4,6 +4,7 @@ use mathlib.Core.Bool.{Bool, true, ◌&&◌}
 use Prim.Native.Nat.{ℕ, ◌%◌, ◌≤◌, ◌<◌}
 use native.Mathlib.Omega.{arith}
 use lib.Dec.{leb, ltb}
+use Rattle.std.specs.Prelude.{Option, Some, None}
 use borrow.Author.Tests.{ltb-true, leb-true, le-leb, ne_eqb}
 use Rattle.basics.specs.Numbers.{fits_bits}
 use Rattle.basics.proofs.Tests.{left_true, right_true, both_true}
@@ -18,8 +19,7 @@ use Rattle.header.specs.Header.{flag_bit, kind_number, header_fits}
 use Rattle.header.specs.declared.Header.{Header}
 use Rattle.header_reading.proofs.Bits.{bit_back, bit_le, kind_back, kind_le}
 use Rattle.header_reading.proofs.Sent.{sendable}
-use Rattle.receiver.specs.declared.Expected.{Expected}
-use Rattle.receiver.specs.declared.Expected.TheVariants.{None, Frame}
+use Rattle.counts.specs.declared.Txfn.{Txfn}
 use Rattle.receiver.specs.declared.Receiver.{Receiver}
 use Rattle.flat.specs.Messages.{flat_message, first_most, second_most, third_most, numbers_fit, message_of}
 use Rattle.flat.specs.Headers.{flags_fit, sent_message, fields_where, header_of, flat_header}
@@ -122,6 +122,6 @@ pub receiver_through_c : (receiver : Receiver) → receiver_of (flat_receiver re
 unfolding is_receiver held_of
 receiver_through_c receiver = go receiver.expected receiver.held
   where
-    go : (expected : Expected) (held : ℕ) → receiver_of (flat_receiver (record { expected = expected; held = held })) ≡ record { expected = expected; held = held }
+    go : (expected : Option Txfn) (held : ℕ) → receiver_of (flat_receiver (record { expected = expected; held = held })) ≡ record { expected = expected; held = held }
     go None held = refl
-    go (Frame txfn) held = refl
+    go (Some txfn) held = refl

@@ -1,24 +1,16 @@
 -- What C gets for each answer of the library: the refusal's number, 0 for none, and the values. After a refusal the state is the one that was given,
 -- and all else is 0.
+use Rattle.std.specs.Prelude.{ℕ, Option, Some, None, Result, Ok, Err}
+use Rattle.refusals.specs.Numbers.{number_of, number_in}
+use Rattle.refusals.specs.declared.Refusal.{Refusal}
 use Rattle.header.specs.Header.{kind_number}
-use Rattle.header.specs.Calls.{code_number}
-use Rattle.header.specs.declared.CodeAnswer.{CodeAnswer}
-use Rattle.header_reading.specs.declared.ReadAnswer.{ReadAnswer}
-use Rattle.header_reading.specs.declared.ReadAnswer.TheVariants as read
-use Rattle.list.specs.declared.EntryAnswer.{EntryAnswer}
-use Rattle.list.specs.declared.EntryAnswer.TheVariants as entry
-use Rattle.opening.specs.declared.OpenAnswer.{OpenAnswer}
-use Rattle.opening.specs.declared.OpenAnswer.TheVariants as opening
-use Rattle.repairing.specs.declared.RepairAnswer.{RepairAnswer}
-use Rattle.repairing.specs.declared.RepairAnswer.TheVariants as repair
-use Rattle.receiver.specs.declared.ApplyAnswer.{ApplyAnswer}
-use Rattle.receiver.specs.declared.ApplyAnswer.TheVariants as apply
-use Rattle.sender.specs.declared.PutAnswer.{PutAnswer}
-use Rattle.sender.specs.declared.PutAnswer.TheVariants as put
-use Rattle.sender.specs.declared.WaitingAnswer.{WaitingAnswer}
-use Rattle.sender.specs.declared.WaitingAnswer.TheVariants as waiting
-use Rattle.sending.specs.declared.NextAnswer.{NextAnswer}
-use Rattle.sending.specs.declared.NextAnswer.TheVariants as next
+use Rattle.header.specs.declared.Header.{Header}
+use Rattle.list.specs.declared.Place.{Place}
+use Rattle.opening.specs.declared.Opened.{Opened}
+use Rattle.receiver.specs.declared.Applied.{Applied}
+use Rattle.sender.specs.declared.Sender.{Sender}
+use Rattle.sender.specs.declared.Counted.{Counted}
+use Rattle.sending.specs.declared.Sent.{Sent}
 use Rattle.flat.specs.Headers.{flat_header, no_header}
 use Rattle.flat.specs.States.{flat_sender, flat_receiver}
 use Rattle.flat.specs.declared.states.FlatReceiver.{FlatReceiver}
@@ -34,52 +26,52 @@ use Rattle.flat.specs.declared.FlatRead.{FlatRead}
 use Rattle.flat.specs.declared.FlatEntry.{FlatEntry}
 use Rattle.flat.specs.declared.FlatPacket.{FlatPacket}
 
-abbrev pub flat_put : FlatSender → PutAnswer → FlatPut
-flat_put given (put.Taken sender) = record { sender = flat_sender sender; refusal = 0 }
-flat_put given (put.Refused number) = record { sender = given; refusal = number }
+abbrev pub flat_put : FlatSender → Result Sender Refusal → FlatPut
+flat_put given (Ok sender) = record { sender = flat_sender sender; refusal = 0 }
+flat_put given (Err refusal) = record { sender = given; refusal = number_of refusal }
 
-abbrev pub flat_waiting : WaitingAnswer → FlatWaiting
-flat_waiting (waiting.Waiting packets bytes) = record { packets = packets; bytes = bytes; refusal = 0 }
-flat_waiting (waiting.Refused number) = record { packets = 0; bytes = 0; refusal = number }
+abbrev pub flat_waiting : Result Counted Refusal → FlatWaiting
+flat_waiting (Ok counted) = record { packets = counted.packets; bytes = counted.bytes; refusal = 0 }
+flat_waiting (Err refusal) = record { packets = 0; bytes = 0; refusal = number_of refusal }
 
-abbrev pub flat_next : FlatSender → NextAnswer → FlatNext
-flat_next given (next.Sent sender kind) = record { sender = flat_sender sender; kind = kind_number kind; refusal = 0 }
-flat_next given (next.Refused number) = record { sender = given; kind = 0; refusal = number }
+abbrev pub flat_next : FlatSender → Result Sent Refusal → FlatNext
+flat_next given (Ok sent) = record { sender = flat_sender sent.sender; kind = kind_number sent.kind; refusal = 0 }
+flat_next given (Err refusal) = record { sender = given; kind = 0; refusal = number_of refusal }
 
-abbrev pub flat_open : OpenAnswer → FlatOpen
-flat_open (opening.Opened header repaired) = record { header = flat_header header; repaired = repaired; refusal = 0 }
-flat_open (opening.Refused number) = record { header = no_header; repaired = 0; refusal = number }
+abbrev pub flat_open : Result Opened Refusal → FlatOpen
+flat_open (Ok opened) = record { header = flat_header opened.header; repaired = opened.repaired; refusal = 0 }
+flat_open (Err refusal) = record { header = no_header; repaired = 0; refusal = number_of refusal }
 
-abbrev pub flat_repair : RepairAnswer → FlatRepair
-flat_repair (repair.Repaired count) = record { repaired = count; refusal = 0 }
-flat_repair (repair.Refused number) = record { repaired = 0; refusal = number }
+abbrev pub flat_repair : Result ℕ Refusal → FlatRepair
+flat_repair (Ok repaired) = record { repaired = repaired; refusal = 0 }
+flat_repair (Err refusal) = record { repaired = 0; refusal = number_of refusal }
 
-abbrev pub flat_apply : FlatReceiver → ApplyAnswer → FlatApply
-flat_apply given (apply.Applied missed packets listed receiver) = record {
-  receiver = flat_receiver receiver;
-  packets = packets;
-  listed = listed;
-  missed = missed;
+abbrev pub flat_apply : FlatReceiver → Result Applied Refusal → FlatApply
+flat_apply given (Ok applied) = record {
+  receiver = flat_receiver applied.receiver;
+  packets = applied.packets;
+  listed = applied.listed;
+  missed = applied.missed;
   refusal = 0;
 }
-flat_apply given (apply.Refused number) = record { receiver = given; packets = 0; listed = 0; missed = 0; refusal = number }
+flat_apply given (Err refusal) = record { receiver = given; packets = 0; listed = 0; missed = 0; refusal = number_of refusal }
 
 -- that a header was coded has no values beside the number
-abbrev pub flat_code : CodeAnswer → FlatCode
-flat_code answer = record { refusal = code_number answer }
+abbrev pub flat_code : Result (Unit {0}) Refusal → FlatCode
+flat_code answer = record { refusal = number_in answer }
 
-abbrev pub flat_read : ReadAnswer → FlatRead
-flat_read (read.Read header) = record { header = flat_header header; refusal = 0 }
-flat_read (read.Refused number) = record { header = no_header; refusal = number }
+abbrev pub flat_read : Result Header Refusal → FlatRead
+flat_read (Ok header) = record { header = flat_header header; refusal = 0 }
+flat_read (Err refusal) = record { header = no_header; refusal = number_of refusal }
 
 -- found is 1 for a packet, and 0 at the end and after a refusal
-abbrev pub flat_entry : EntryAnswer → FlatEntry
-flat_entry (entry.Packet start length next) = record { start = start; length = length; next = next; found = 1; refusal = 0 }
-flat_entry entry.End = record { start = 0; length = 0; next = 0; found = 0; refusal = 0 }
-flat_entry (entry.Refused number) = record { start = 0; length = 0; next = 0; found = 0; refusal = number }
+abbrev pub flat_entry : Result (Option Place) Refusal → FlatEntry
+flat_entry (Ok (Some place)) = record { start = place.start; length = place.length; next = place.next; found = 1; refusal = 0 }
+flat_entry (Ok None) = record { start = 0; length = 0; next = 0; found = 0; refusal = 0 }
+flat_entry (Err refusal) = record { start = 0; length = 0; next = 0; found = 0; refusal = number_of refusal }
 
 -- C gets no reference: where the packet stands in the caller's list, an empty part at an end or a refusal
-abbrev pub flat_packet : EntryAnswer → FlatPacket
-flat_packet (entry.Packet start length next) = record { start = start; length = length }
-flat_packet entry.End = record { start = 0; length = 0 }
-flat_packet (entry.Refused number) = record { start = 0; length = 0 }
+abbrev pub flat_packet : Result (Option Place) Refusal → FlatPacket
+flat_packet (Ok (Some place)) = record { start = place.start; length = place.length }
+flat_packet (Ok None) = record { start = 0; length = 0 }
+flat_packet (Err refusal) = record { start = 0; length = 0 }

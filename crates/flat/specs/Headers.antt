@@ -1,8 +1,7 @@
 -- A header's fields as C has them: bools are 0 or 1, the kind is 0 to 3. What stands for no field is handed to the library as a message that it refuses
 -- (6; 11 by apply), so that the number which C gets is the first of the library's own order.
 use Rattle.std.specs.Prelude.{Bool, true, cond, ◌&&◌, eqb, leb}
-use Rattle.header.specs.Header.{flag_bit, kind_number}
-use Rattle.header_reading.specs.Reading.{kind_of}
+use Rattle.header.specs.Header.{flag_bit, kind_number, kind_of}
 use Rattle.fast_channel.specs.declared.FastChannel.{FastChannel}
 use Rattle.fast_channel.specs.declared.FastChannel.TheVariants.{Reserved}
 use Rattle.header.specs.declared.Fields.{Fields}

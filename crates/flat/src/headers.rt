@@ -1,16 +1,16 @@
 // A header's fields: bools and the kind are numbers, and a number that stands for none is refused as a field to send (6; 11 by apply).
 ghost use Rattle.std.specs.Prelude.{◌≡◌};
-ghost use Rattle.header.specs.Calls.{code_number};
-ghost use Rattle.flat.specs.Headers.{flags_fit, sent_message, fields_where, fields_of, header_of, flat_fields, flat_header, no_header};
+ghost use Rattle.flat.specs.Headers.{flags_fit, sent_message, fields_where, fields_of, header_of, flat_fields, flat_header};
 
 use crate::messages;
 use crate::messages::FlatMessage;
 use counts::{Rxfn, Txfn};
 use fast_channel::FastChannel;
-use header::{CodeAnswer, Fields, FrameKind, Header};
+use header::{Fields, FrameKind, Header};
 
+// For C, and so beside `Fields`: C has no enums with values, and gives a bool or a kind as any number.
 #[repr(C)]
-#[derive(Clone, Copy)]
+#[derive(Clone, Copy, Default)]
 pub struct FlatFields {
     pub stamp: u64,
     pub rxfn: u16,
@@ -22,7 +22,7 @@ pub struct FlatFields {
 }
 
 #[repr(C)]
-#[derive(Clone, Copy)]
+#[derive(Clone, Copy, Default)]
 pub struct FlatHeader {
     pub fields: FlatFields,
     pub txfn: u16,
@@ -34,10 +34,7 @@ pub struct FlatHeader {
 fn flags_fit(fields: FlatFields) -> bool
     ensures { result ≡ flags_fit fields }
 {
-    if 1 < fields.ack {
-        return false;
-    }
-    fields.valid <= 1
+    fields.ack <= 1 && fields.valid <= 1
 }
 
 // The message to send, or one that is refused.
@@ -45,17 +42,11 @@ fn flags_fit(fields: FlatFields) -> bool
 fn sent_message(others: bool, fields: FlatFields) -> FastChannel
     ensures { result ≡ sent_message others fields }
 {
-    let message = fields.message;
-    if !others {
-        return FastChannel::Reserved(0);
+    if others && flags_fit(fields) && messages::numbers_fit(fields.message) {
+        messages::message_of(fields.message)
+    } else {
+        FastChannel::Reserved(0)
     }
-    if !flags_fit(fields) {
-        return FastChannel::Reserved(0);
-    }
-    if !messages::numbers_fit(message) {
-        return FastChannel::Reserved(0);
-    }
-    messages::message_of(message)
 }
 
 // The fields, and with them whether what stands beside them fits.
@@ -63,7 +54,6 @@ fn sent_message(others: bool, fields: FlatFields) -> FastChannel
 fn fields_where(others: bool, fields: FlatFields) -> Fields
     ensures { result ≡ fields_where others fields }
 {
-    let message = sent_message(others, fields);
     Fields {
         rxfn: Rxfn(fields.rxfn),
         ack: fields.ack == 1,
@@ -71,89 +61,54 @@ fn fields_where(others: bool, fields: FlatFields) -> Fields
         stamp: fields.stamp,
         seconds: fields.seconds,
         applies: fields.applies,
-        message,
+        message: sent_message(others, fields),
     }
 }
 
-pub fn fields_of(fields: FlatFields) -> Fields
-    ensures { result ≡ fields_of fields }
-{
-    fields_where(true, fields)
-}
+impl From<FlatFields> for Fields {
+    ghost from_gives = { λ flat fields. fields ≡ fields_of flat };
 
-pub fn header_of(header: FlatHeader) -> Header
-    ensures { result ≡ header_of header }
-{
-    let number = header.kind;
-    let given = header.fields;
-    let fields = fields_where(number <= 3, given);
-    let kind = FrameKind::from(number);
-    Header {
-        txfn: Txfn(header.txfn),
-        kind,
-        fields,
+    fn from(flat: FlatFields) -> Fields {
+        fields_where(true, flat)
     }
 }
 
-fn flat_fields(fields: Fields) -> FlatFields
-    ensures { result ≡ flat_fields fields }
-{
-    let given = fields.message;
-    let message = messages::flat_message(given);
-    FlatFields {
-        stamp: fields.stamp,
-        rxfn: fields.rxfn.0,
-        ack: u8::from(fields.ack),
-        valid: u8::from(fields.valid),
-        seconds: fields.seconds,
-        applies: fields.applies,
-        message,
+impl From<FlatHeader> for Header {
+    ghost from_gives = { λ flat header. header ≡ header_of flat };
+
+    fn from(flat: FlatHeader) -> Header {
+        Header {
+            txfn: Txfn(flat.txfn),
+            kind: FrameKind::from(flat.kind),
+            fields: fields_where(flat.kind <= 3, flat.fields),
+        }
     }
 }
 
-pub fn flat_header(header: Header) -> FlatHeader
-    ensures { result ≡ flat_header header }
-{
-    let given = header.fields;
-    let fields = flat_fields(given);
-    let kind = header.kind;
-    FlatHeader {
-        fields,
-        txfn: header.txfn.0,
-        kind: u8::from(kind),
+impl From<Fields> for FlatFields {
+    ghost from_gives = { λ fields flat. flat ≡ flat_fields fields };
+
+    fn from(fields: Fields) -> FlatFields {
+        FlatFields {
+            stamp: fields.stamp,
+            rxfn: fields.rxfn.0,
+            ack: u8::from(fields.ack),
+            valid: u8::from(fields.valid),
+            seconds: fields.seconds,
+            applies: fields.applies,
+            message: FlatMessage::from(fields.message),
+        }
     }
 }
 
-// What stands for a header in the answer of a refusal: zeros.
-pub fn no_header() -> FlatHeader
-    ensures { result ≡ no_header }
-{
-    FlatHeader {
-        fields: FlatFields {
-            stamp: 0,
-            rxfn: 0,
-            ack: 0,
-            valid: 0,
-            seconds: 0,
-            applies: 0,
-            message: FlatMessage {
-                opcode: 0,
-                first: 0,
-                second: 0,
-                third: 0,
-            },
-        },
-        txfn: 0,
-        kind: 0,
-    }
-}
+impl From<Header> for FlatHeader {
+    ghost from_gives = { λ header flat. flat ≡ flat_header header };
 
-// The number of what coding a header answers, 0 for no refusal.
-pub fn code_number(answer: CodeAnswer) -> u8
-    ensures { result ≡ code_number answer }
-{
-    match answer {
-        CodeAnswer::Coded => 0,
-        CodeAnswer::Refused(number) => number,
+    fn from(header: Header) -> FlatHeader {
+        FlatHeader {
+            fields: FlatFields::from(header.fields),
+            txfn: header.txfn.0,
+            kind: u8::from(header.kind),
+        }
     }
 }

@@ -10,16 +10,17 @@ pub mod states;
 ghost use Rattle.std.specs.Prelude.{◌≡◌};
 ghost use Rattle.flat.specs.Answers.{flat_put, flat_waiting, flat_next, flat_open, flat_repair, flat_apply, flat_code, flat_read, flat_entry, flat_packet};
 
-use header::CodeAnswer;
-use header_reading::ReadAnswer;
+use header::Header;
 use headers::FlatHeader;
-use list::EntryAnswer;
-use opening::OpenAnswer;
-use receiver::ApplyAnswer;
-use repairing::RepairAnswer;
-use sender::{PutAnswer, WaitingAnswer};
-use sending::NextAnswer;
+use list::Place;
+use opening::Opened;
+use receiver::Applied;
+use refusals::Refusal;
+use sender::{Counted, Sender};
+use sending::Sent;
 use states::{FlatReceiver, FlatSender};
+
+// One struct for each answer, though the library has one `Result` for all: C has no `Result`, and is given the number and the values side by side.
 
 #[repr(C)]
 #[derive(Clone, Copy)]
@@ -29,7 +30,7 @@ pub struct FlatPut {
 }
 
 #[repr(C)]
-#[derive(Clone, Copy)]
+#[derive(Clone, Copy, Default)]
 pub struct FlatWaiting {
     pub packets: usize,
     pub bytes: usize,
@@ -45,7 +46,7 @@ pub struct FlatNext {
 }
 
 #[repr(C)]
-#[derive(Clone, Copy)]
+#[derive(Clone, Copy, Default)]
 pub struct FlatOpen {
     pub header: FlatHeader,
     pub repaired: u8,
@@ -53,7 +54,7 @@ pub struct FlatOpen {
 }
 
 #[repr(C)]
-#[derive(Clone, Copy)]
+#[derive(Clone, Copy, Default)]
 pub struct FlatRepair {
     pub repaired: u8,
     pub refusal: u8,
@@ -70,20 +71,20 @@ pub struct FlatApply {
 }
 
 #[repr(C)]
-#[derive(Clone, Copy)]
+#[derive(Clone, Copy, Default)]
 pub struct FlatCode {
     pub refusal: u8,
 }
 
 #[repr(C)]
-#[derive(Clone, Copy)]
+#[derive(Clone, Copy, Default)]
 pub struct FlatRead {
     pub header: FlatHeader,
     pub refusal: u8,
 }
 
 #[repr(C)]
-#[derive(Clone, Copy)]
+#[derive(Clone, Copy, Default)]
 pub struct FlatEntry {
     pub start: usize,
     pub length: usize,
@@ -94,190 +95,182 @@ pub struct FlatEntry {
 
 // Where a packet stands in the caller's list.
 #[repr(C)]
-#[derive(Clone, Copy)]
+#[derive(Clone, Copy, Default)]
 pub struct FlatPacket {
     pub start: usize,
     pub length: usize,
 }
 
-pub fn flat_put(given: FlatSender, answer: PutAnswer) -> FlatPut
+// The three answers that have a state are given the one before the call too, and so are no `From`.
+
+pub fn flat_put(given: FlatSender, answer: Result<Sender, Refusal>) -> FlatPut
     ensures { result ≡ flat_put given answer }
 {
     match answer {
-        PutAnswer::Taken(after) => FlatPut {
-            sender: states::flat_sender(after),
+        Ok(sender) => FlatPut {
+            sender: FlatSender::from(sender),
             refusal: 0,
         },
-        PutAnswer::Refused(number) => FlatPut {
+        Err(refusal) => FlatPut {
             sender: given,
-            refusal: number,
+            refusal: u8::from(refusal),
         },
     }
 }
 
-pub fn flat_waiting(answer: WaitingAnswer) -> FlatWaiting
-    ensures { result ≡ flat_waiting answer }
-{
-    match answer {
-        WaitingAnswer::Waiting { packets, bytes } => FlatWaiting {
-            packets,
-            bytes,
-            refusal: 0,
-        },
-        WaitingAnswer::Refused(number) => FlatWaiting {
-            packets: 0,
-            bytes: 0,
-            refusal: number,
-        },
-    }
-}
-
-pub fn flat_next(given: FlatSender, answer: NextAnswer) -> FlatNext
+pub fn flat_next(given: FlatSender, answer: Result<Sent, Refusal>) -> FlatNext
     ensures { result ≡ flat_next given answer }
 {
     match answer {
-        NextAnswer::Sent { sender, kind } => FlatNext {
-            sender: states::flat_sender(sender),
-            kind: u8::from(kind),
+        Ok(sent) => FlatNext {
+            sender: FlatSender::from(sent.sender),
+            kind: u8::from(sent.kind),
             refusal: 0,
         },
-        NextAnswer::Refused(number) => FlatNext {
+        Err(refusal) => FlatNext {
             sender: given,
             kind: 0,
-            refusal: number,
+            refusal: u8::from(refusal),
         },
     }
 }
 
-pub fn flat_open(answer: OpenAnswer) -> FlatOpen
-    ensures { result ≡ flat_open answer }
-{
-    match answer {
-        OpenAnswer::Opened { header, repaired } => FlatOpen {
-            header: headers::flat_header(header),
-            repaired,
-            refusal: 0,
-        },
-        OpenAnswer::Refused(number) => FlatOpen {
-            header: headers::no_header(),
-            repaired: 0,
-            refusal: number,
-        },
-    }
-}
-
-pub fn flat_repair(answer: RepairAnswer) -> FlatRepair
-    ensures { result ≡ flat_repair answer }
-{
-    match answer {
-        RepairAnswer::Repaired(count) => FlatRepair {
-            repaired: count,
-            refusal: 0,
-        },
-        RepairAnswer::Refused(number) => FlatRepair {
-            repaired: 0,
-            refusal: number,
-        },
-    }
-}
-
-pub fn flat_apply(given: FlatReceiver, answer: ApplyAnswer) -> FlatApply
+pub fn flat_apply(given: FlatReceiver, answer: Result<Applied, Refusal>) -> FlatApply
     ensures { result ≡ flat_apply given answer }
 {
     match answer {
-        ApplyAnswer::Applied {
-            missed,
-            packets,
-            listed,
-            receiver,
-        } => FlatApply {
-            receiver: states::flat_receiver(receiver),
-            packets,
-            listed,
-            missed,
+        Ok(applied) => FlatApply {
+            receiver: FlatReceiver::from(applied.receiver),
+            packets: applied.packets,
+            listed: applied.listed,
+            missed: applied.missed,
             refusal: 0,
         },
-        ApplyAnswer::Refused(number) => FlatApply {
+        Err(refusal) => FlatApply {
             receiver: given,
             packets: 0,
             listed: 0,
             missed: 0,
-            refusal: number,
+            refusal: u8::from(refusal),
         },
     }
 }
 
-pub fn flat_code(answer: CodeAnswer) -> FlatCode
-    ensures { result ≡ flat_code answer }
-{
-    FlatCode {
-        refusal: headers::code_number(answer),
+impl From<Result<Counted, Refusal>> for FlatWaiting {
+    ghost from_gives = { λ answer flat. flat ≡ flat_waiting answer };
+
+    fn from(answer: Result<Counted, Refusal>) -> FlatWaiting {
+        match answer {
+            Ok(counted) => FlatWaiting {
+                packets: counted.packets,
+                bytes: counted.bytes,
+                refusal: 0,
+            },
+            Err(refusal) => FlatWaiting {
+                refusal: u8::from(refusal),
+                ..FlatWaiting::default()
+            },
+        }
     }
 }
 
-pub fn flat_read(answer: ReadAnswer) -> FlatRead
-    ensures { result ≡ flat_read answer }
-{
-    match answer {
-        ReadAnswer::Read(header) => FlatRead {
-            header: headers::flat_header(header),
-            refusal: 0,
-        },
-        ReadAnswer::Refused(number) => FlatRead {
-            header: headers::no_header(),
-            refusal: number,
-        },
+impl From<Result<Opened, Refusal>> for FlatOpen {
+    ghost from_gives = { λ answer flat. flat ≡ flat_open answer };
+
+    fn from(answer: Result<Opened, Refusal>) -> FlatOpen {
+        match answer {
+            Ok(opened) => FlatOpen {
+                header: FlatHeader::from(opened.header),
+                repaired: opened.repaired,
+                refusal: 0,
+            },
+            Err(refusal) => FlatOpen {
+                refusal: u8::from(refusal),
+                ..FlatOpen::default()
+            },
+        }
     }
 }
 
-pub fn flat_entry(answer: EntryAnswer) -> FlatEntry
-    ensures { result ≡ flat_entry answer }
-{
-    match answer {
-        EntryAnswer::Packet {
-            start,
-            length,
-            next,
-        } => FlatEntry {
-            start,
-            length,
-            next,
-            found: 1,
-            refusal: 0,
-        },
-        EntryAnswer::End => FlatEntry {
-            start: 0,
-            length: 0,
-            next: 0,
-            found: 0,
-            refusal: 0,
-        },
-        EntryAnswer::Refused(number) => FlatEntry {
-            start: 0,
-            length: 0,
-            next: 0,
-            found: 0,
-            refusal: number,
-        },
+// The count of wrong bytes.
+impl From<Result<u8, Refusal>> for FlatRepair {
+    ghost from_gives = { λ answer flat. flat ≡ flat_repair answer };
+
+    fn from(answer: Result<u8, Refusal>) -> FlatRepair {
+        match answer {
+            Ok(repaired) => FlatRepair {
+                repaired,
+                refusal: 0,
+            },
+            Err(refusal) => FlatRepair {
+                refusal: u8::from(refusal),
+                ..FlatRepair::default()
+            },
+        }
     }
 }
 
-pub fn flat_packet(answer: EntryAnswer) -> FlatPacket
-    ensures { result ≡ flat_packet answer }
-{
-    match answer {
-        EntryAnswer::Packet {
-            start,
-            length,
-            next: _,
-        } => FlatPacket { start, length },
-        EntryAnswer::End => FlatPacket {
-            start: 0,
-            length: 0,
-        },
-        EntryAnswer::Refused(_) => FlatPacket {
-            start: 0,
-            length: 0,
-        },
+impl From<Result<(), Refusal>> for FlatCode {
+    ghost from_gives = { λ answer flat. flat ≡ flat_code answer };
+
+    fn from(answer: Result<(), Refusal>) -> FlatCode {
+        match answer {
+            Ok(()) => FlatCode::default(),
+            Err(refusal) => FlatCode {
+                refusal: u8::from(refusal),
+            },
+        }
+    }
+}
+
+impl From<Result<Header, Refusal>> for FlatRead {
+    ghost from_gives = { λ answer flat. flat ≡ flat_read answer };
+
+    fn from(answer: Result<Header, Refusal>) -> FlatRead {
+        match answer {
+            Ok(header) => FlatRead {
+                header: FlatHeader::from(header),
+                refusal: 0,
+            },
+            Err(refusal) => FlatRead {
+                refusal: u8::from(refusal),
+                ..FlatRead::default()
+            },
+        }
+    }
+}
+
+impl From<Result<Option<Place>, Refusal>> for FlatEntry {
+    ghost from_gives = { λ answer flat. flat ≡ flat_entry answer };
+
+    fn from(answer: Result<Option<Place>, Refusal>) -> FlatEntry {
+        match answer {
+            Ok(Some(place)) => FlatEntry {
+                start: place.start,
+                length: place.length,
+                next: place.next,
+                found: 1,
+                refusal: 0,
+            },
+            Ok(None) => FlatEntry::default(),
+            Err(refusal) => FlatEntry {
+                refusal: u8::from(refusal),
+                ..FlatEntry::default()
+            },
+        }
+    }
+}
+
+impl From<Result<Option<Place>, Refusal>> for FlatPacket {
+    ghost from_gives = { λ answer flat. flat ≡ flat_packet answer };
+
+    fn from(answer: Result<Option<Place>, Refusal>) -> FlatPacket {
+        match answer {
+            Ok(Some(place)) => FlatPacket {
+                start: place.start,
+                length: place.length,
+            },
+            _ => FlatPacket::default(),
+        }
     }
 }

@@ -1,11 +1,12 @@
 // A message of the fast channel: its opcode and up to three numbers. Numbers that a message does not have are 0.
-ghost use Rattle.std.specs.Prelude.{◌≡◌};
+ghost use Rattle.std.specs.Prelude.{◌≡◌, [], ◌∷◌};
 ghost use Rattle.flat.specs.Messages.{first_most, second_most, third_most, numbers_fit, message_of, flat_message};
 
 use fast_channel::{FastChannel, Lock};
 
+// For C, and so beside `FastChannel`, an enum with values, which C has not.
 #[repr(C)]
-#[derive(Clone, Copy)]
+#[derive(Clone, Copy, Default)]
 pub struct FlatMessage {
     pub opcode: u8,
     pub first: u16,
@@ -13,43 +14,20 @@ pub struct FlatMessage {
     pub third: u16,
 }
 
-#[tactic(auto, unfolding(crate::specs::Messages::first_most))]
-fn first_most(opcode: u8) -> u16
-    ensures { result ≡ first_most opcode }
+// The greatest value of each of a message's numbers, by its bits; 0 where it has no such number.
+#[tactic(
+    auto,
+    unfolding(crate::specs::Messages::first_most, crate::specs::Messages::second_most, crate::specs::Messages::third_most)
+)]
+fn most_numbers(opcode: u8) -> [u16; 3]
+    ensures { result ≡ first_most opcode ∷ second_most opcode ∷ third_most opcode ∷ [] }
 {
     match opcode {
-        0 => 65535,
-        1 => 16383,
-        2 => 255,
-        3 => 16383,
-        4 => 255,
-        5 => 31,
-        6 => 65535,
-        _ => 0,
-    }
-}
-
-#[tactic(auto, unfolding(crate::specs::Messages::second_most))]
-fn second_most(opcode: u8) -> u16
-    ensures { result ≡ second_most opcode }
-{
-    match opcode {
-        1 => 1,
-        2 => 255,
-        3 => 1,
-        4 => 255,
-        5 => 31,
-        _ => 0,
-    }
-}
-
-#[tactic(auto, unfolding(crate::specs::Messages::third_most))]
-fn third_most(opcode: u8) -> u16
-    ensures { result ≡ third_most opcode }
-{
-    match opcode {
-        5 => 63,
-        _ => 0,
+        0 | 6 => [65535, 0, 0],
+        1 | 3 => [16383, 1, 0],
+        2 | 4 => [255, 255, 0],
+        5 => [31, 31, 63],
+        _ => [0, 0, 0],
     }
 }
 
@@ -58,20 +36,15 @@ fn third_most(opcode: u8) -> u16
 pub fn numbers_fit(message: FlatMessage) -> bool
     ensures { result ≡ numbers_fit message }
 {
-    let opcode = message.opcode;
-    if 15 < opcode {
-        return false;
-    }
-    if first_most(opcode) < message.first {
-        return false;
-    }
-    if second_most(opcode) < message.second {
-        return false;
-    }
-    message.third <= third_most(opcode)
+    let [first, second, third] = most_numbers(message.opcode);
+    message.opcode <= 15
+        && message.first <= first
+        && message.second <= second
+        && message.third <= third
 }
 
-// The message, where its numbers fit; a number of one byte is cut off otherwise.
+// The message, where its numbers fit; a number of one byte is cut off otherwise. No `TryFrom`: C is told of a misfit in the order of the library's refusals,
+// so that what is refused has to go on as a message (`sent_message`).
 #[tactic(auto, unfolding(crate::specs::Messages::message_of))]
 pub fn message_of(message: FlatMessage) -> FastChannel
     ensures { result ≡ message_of message }
@@ -120,37 +93,20 @@ fn numbers(opcode: u8, first: u16, second: u16, third: u16) -> FlatMessage
     }
 }
 
-pub fn flat_message(message: FastChannel) -> FlatMessage
-    ensures { result ≡ flat_message message }
-{
-    match message {
-        FastChannel::CrcErrors(errors) => numbers(0, errors, 0, 0),
-        FastChannel::ReceivedPower { power, lock } => numbers(
-            1,
-            power,
-            u16::from(lock),
-            0,
-        ),
-        FastChannel::PowerStatistics { mean, deviation } => numbers(
-            2,
-            mean as u16,
-            deviation as u16,
-            0,
-        ),
-        FastChannel::SyncLosses { losses, lock } => numbers(
-            3,
-            losses,
-            u16::from(lock),
-            0,
-        ),
-        FastChannel::PowerRange { least, greatest } => numbers(4, least as u16, greatest as u16, 0),
-        FastChannel::Version {
-            major,
-            minor,
-            patch,
-        } => numbers(5, major as u16, minor as u16, patch as u16),
-        FastChannel::CorrectedFrames(frames) => numbers(6, frames, 0, 0),
-        FastChannel::Reserved(opcode) => numbers(opcode, 0, 0, 0),
-        FastChannel::Absent => numbers(15, 0, 0, 0),
+impl From<FastChannel> for FlatMessage {
+    ghost from_gives = { λ message flat. flat ≡ flat_message message };
+
+    fn from(message: FastChannel) -> FlatMessage {
+        match message {
+            FastChannel::CrcErrors(errors) => numbers(0, errors, 0, 0),
+            FastChannel::ReceivedPower { power, lock } => numbers(1, power, u16::from(lock), 0),
+            FastChannel::PowerStatistics { mean, deviation } => numbers(2, mean as u16, deviation as u16, 0),
+            FastChannel::SyncLosses { losses, lock } => numbers(3, losses, u16::from(lock), 0),
+            FastChannel::PowerRange { least, greatest } => numbers(4, least as u16, greatest as u16, 0),
+            FastChannel::Version { major, minor, patch } => numbers(5, major as u16, minor as u16, patch as u16),
+            FastChannel::CorrectedFrames(frames) => numbers(6, frames, 0, 0),
+            FastChannel::Reserved(opcode) => numbers(opcode, 0, 0, 0),
+            FastChannel::Absent => numbers(15, 0, 0, 0),
+        }
     }
 }

@@ -4,9 +4,10 @@ ghost use Rattle.flat.specs.States.{sender_of, flat_sender, is_receiver, expecte
 
 use basics::sizes;
 use counts::Txfn;
-use receiver::{Expected, Receiver};
+use receiver::Receiver;
 use sender::Sender;
 
+// For C, and so beside `Sender`: `repr(C)`, and the next number as it is.
 #[repr(C)]
 #[derive(Clone, Copy)]
 pub struct FlatSender {
@@ -15,26 +16,31 @@ pub struct FlatSender {
     pub next: u16,
 }
 
-pub fn sender_of(sender: FlatSender) -> Sender
-    ensures { result ≡ sender_of sender }
-{
-    Sender {
-        start: sender.start,
-        used: sender.used,
-        next: Txfn(sender.next),
+impl From<FlatSender> for Sender {
+    ghost from_gives = { λ flat sender. sender ≡ sender_of flat };
+
+    fn from(flat: FlatSender) -> Sender {
+        Sender {
+            start: flat.start,
+            used: flat.used,
+            next: Txfn(flat.next),
+        }
     }
 }
 
-pub fn flat_sender(sender: Sender) -> FlatSender
-    ensures { result ≡ flat_sender sender }
-{
-    FlatSender {
-        start: sender.start,
-        used: sender.used,
-        next: sender.next.0,
+impl From<Sender> for FlatSender {
+    ghost from_gives = { λ sender flat. flat ≡ flat_sender sender };
+
+    fn from(sender: Sender) -> FlatSender {
+        FlatSender {
+            start: sender.start,
+            used: sender.used,
+            next: sender.next.0,
+        }
     }
 }
 
+// For C, and so beside `Receiver`: C has no `Option`, and `expects` tells whether a number is expected.
 #[repr(C)]
 #[derive(Clone, Copy)]
 pub struct FlatReceiver {
@@ -44,62 +50,63 @@ pub struct FlatReceiver {
 }
 
 #[tactic(auto, unfolding(crate::specs::States::is_receiver))]
-fn is_receiver(receiver: FlatReceiver) -> bool
-    ensures { result ≡ is_receiver receiver }
+fn is_receiver(flat: FlatReceiver) -> bool
+    ensures { result ≡ is_receiver flat }
 {
-    if receiver.expects == 1 {
-        return true;
+    match flat.expects {
+        0 => flat.expected == 0,
+        1 => true,
+        _ => false,
     }
-    if receiver.expects != 0 {
-        return false;
-    }
-    receiver.expected == 0
 }
 
-fn expected_of(receiver: FlatReceiver) -> Expected
-    ensures { result ≡ expected_of receiver }
+fn expected_of(flat: FlatReceiver) -> Option<Txfn>
+    ensures { result ≡ expected_of flat }
 {
-    if receiver.expects == 0 {
-        Expected::None
+    if flat.expects == 0 {
+        None
     } else {
-        Expected::Frame(Txfn(receiver.expected))
+        Some(Txfn(flat.expected))
     }
 }
 
 #[tactic(auto, unfolding(crate::specs::States::held_of))]
-fn held_of(receiver: FlatReceiver) -> usize
-    ensures { result ≡ held_of receiver }
+fn held_of(flat: FlatReceiver) -> usize
+    ensures { result ≡ held_of flat }
 {
-    if is_receiver(receiver) {
-        receiver.held
+    if is_receiver(flat) {
+        flat.held
     } else {
         sizes::HOLD_SIZE
     }
 }
 
-pub fn receiver_of(receiver: FlatReceiver) -> Receiver
-    ensures { result ≡ receiver_of receiver }
-{
-    let expected = expected_of(receiver);
-    let held = held_of(receiver);
-    Receiver { expected, held }
+impl From<FlatReceiver> for Receiver {
+    ghost from_gives = { λ flat receiver. receiver ≡ receiver_of flat };
+
+    fn from(flat: FlatReceiver) -> Receiver {
+        Receiver {
+            expected: expected_of(flat),
+            held: held_of(flat),
+        }
+    }
 }
 
-pub fn flat_receiver(receiver: Receiver) -> FlatReceiver
-    ensures { result ≡ flat_receiver receiver }
-{
-    let expected = receiver.expected;
-    let held = receiver.held;
-    match expected {
-        Expected::None => FlatReceiver {
-            held,
-            expected: 0,
-            expects: 0,
-        },
-        Expected::Frame(number) => FlatReceiver {
-            held,
-            expected: number.0,
-            expects: 1,
-        },
+impl From<Receiver> for FlatReceiver {
+    ghost from_gives = { λ receiver flat. flat ≡ flat_receiver receiver };
+
+    fn from(receiver: Receiver) -> FlatReceiver {
+        match receiver.expected {
+            None => FlatReceiver {
+                held: receiver.held,
+                expected: 0,
+                expects: 0,
+            },
+            Some(number) => FlatReceiver {
+                held: receiver.held,
+                expected: number.0,
+                expects: 1,
+            },
+        }
     }
 }

@@ -8,22 +8,23 @@ use flat::headers::{FlatFields, FlatHeader};
 use flat::states::{FlatReceiver, FlatSender};
 use flat::{
     FlatApply, FlatCode, FlatEntry, FlatNext, FlatOpen, FlatPacket, FlatPut, FlatRead, FlatRepair,
-    FlatWaiting, headers, states,
+    FlatWaiting,
 };
+use header::{Fields, Header};
 use receiver::Receiver;
 use sender::Sender;
 
 pub fn taqwelim_fresh_sender() -> FlatSender
     ensures { FreshSenderCall result }
 {
-    states::flat_sender(Sender::fresh())
+    FlatSender::from(Sender::fresh())
 }
 
 // Refusals: 2, 3, 4, 5.
 pub fn taqwelim_put(queue: &mut [u8], sender: FlatSender, packet: &[u8]) -> FlatPut
     ensures { PutCall queue.old sender packet.now result queue.new }
 {
-    let answer = sender::put(queue, states::sender_of(sender), packet);
+    let answer = sender::put(queue, Sender::from(sender), packet);
     flat::flat_put(sender, answer)
 }
 
@@ -31,8 +32,7 @@ pub fn taqwelim_put(queue: &mut [u8], sender: FlatSender, packet: &[u8]) -> Flat
 pub fn taqwelim_waiting(queue: &[u8], sender: FlatSender) -> FlatWaiting
     ensures { WaitingCall queue.now sender result }
 {
-    let answer = sender::waiting(queue, states::sender_of(sender));
-    flat::flat_waiting(answer)
+    FlatWaiting::from(sender::waiting(queue, Sender::from(sender)))
 }
 
 // Refusals: 1, 2, 3, 6.
@@ -47,8 +47,8 @@ pub fn taqwelim_next_frame(
 {
     let answer = sending::next_frame(
         taps,
-        headers::fields_of(fields),
-        states::sender_of(sender),
+        Fields::from(fields),
+        Sender::from(sender),
         queue,
         out,
     );
@@ -58,23 +58,21 @@ pub fn taqwelim_next_frame(
 pub fn taqwelim_fresh_receiver() -> FlatReceiver
     ensures { FreshReceiverCall result }
 {
-    states::flat_receiver(Receiver::fresh())
+    FlatReceiver::from(Receiver::fresh())
 }
 
 // Refusals: 1, 2, 7 to 9, 11 to 13.
 pub fn taqwelim_open(taps: u32, frame: &[u8], area: &mut [u8]) -> FlatOpen
     ensures { OpenCall taps frame.now area.old result area.new }
 {
-    let answer = opening::open(taps, frame, area);
-    flat::flat_open(answer)
+    FlatOpen::from(opening::open(taps, frame, area))
 }
 
 // Refusals: 1, 2, 8, 12. The repaired bytes are the part itself where the count is 0, and otherwise the first 2,072 of the scratch.
 pub fn taqwelim_repair(taps: u32, part: &[u8], scratch: &mut [u8]) -> FlatRepair
     ensures { RepairCall taps part.now scratch.old result scratch.new }
 {
-    let answer = repairing::repair(taps, part, scratch);
-    flat::flat_repair(answer)
+    FlatRepair::from(repairing::repair(taps, part, scratch))
 }
 
 // Refusals: 2, 3, 11, 14, 15.
@@ -87,9 +85,8 @@ pub fn taqwelim_apply(
 ) -> FlatApply
     ensures { ApplyCall header area.now receiver hold.old list.old result hold.new list.new }
 {
-    let opened = headers::header_of(header);
-    let given = states::receiver_of(receiver);
-    let answer = receiver::apply(opened, area, given, hold, list);
+    let opened = Header::from(header);
+    let answer = receiver::apply(opened, area, Receiver::from(receiver), hold, list);
     flat::flat_apply(receiver, answer)
 }
 
@@ -97,29 +94,28 @@ pub fn taqwelim_apply(
 pub fn taqwelim_entry(list: &[u8], position: usize) -> FlatEntry
     ensures { EntryCall list.now position result }
 {
-    flat::flat_entry(list::entry(list, position))
+    FlatEntry::from(list::entry(list, position))
 }
 
 // Where the packet stands in the caller's list, for C has no slices.
 pub fn taqwelim_packet(list: &[u8], position: usize) -> FlatPacket
     ensures { PacketCall list.now position result }
 {
-    flat::flat_packet(list::entry(list, position))
+    FlatPacket::from(list::entry(list, position))
 }
 
 // Refusals: 2, 6.
 pub fn taqwelim_code_header(header: FlatHeader, out: &mut [u8]) -> FlatCode
     ensures { CodeCall header out.old result out.new }
 {
-    let answer = header::code_header(headers::header_of(header), out);
-    flat::flat_code(answer)
+    FlatCode::from(header::code_header(Header::from(header), out))
 }
 
 // Refusals: 2, 9, 11.
 pub fn taqwelim_read_header(bytes: &[u8]) -> FlatRead
     ensures { ReadCall bytes.now result }
 {
-    flat::flat_read(header_reading::read_header(bytes))
+    FlatRead::from(header_reading::read_header(bytes))
 }
 
 pub fn taqwelim_level(code: u8) -> i32
