@@ -1,41 +1,25 @@
 -- DEMAND 1: every call takes all inputs, ends, and answers or refuses by a number from its table, the lowest that applies; a refusal returns that number
 -- only, and changes no state and no byte of a lent buffer. That a call takes all inputs and ends is shown by its having no `requires` and being proved. Here:
 -- what its contract says. A state is given and returned by value. `every_call_holds` in proofs/Demand1.antt is the proof; CallsForC.antt has the calls for C.
-use Rattle.std.specs.Prelude.{◌≡◌, true, List, [], ◌∷◌, ◌++◌, ℕ, ◌≤◌, ℤ}
+use Rattle.std.specs.Prelude.{◌≡◌, true, List, [], ◌∷◌, ◌++◌, ℕ, ◌≤◌, ℤ, Option, Result, Err}
 use Rattle.std.specs.Borrow.{Bor}
+use Rattle.refusals.specs.Numbers.{number_of, number_in}
 use Rattle.refusals.specs.Table.{Row, first_of}
-use Rattle.header.specs.Calls.{code_table, code_number, CodeHeaderOutcome}
-use Rattle.header_reading.specs.Reading.{read_table, read_number, ReadHeaderOutcome}
+use Rattle.refusals.specs.declared.Refusal.{Refusal}
+use Rattle.header.specs.Calls.{code_table, CodeHeaderOutcome}
+use Rattle.header_reading.specs.Reading.{read_table, ReadHeaderOutcome}
 use Rattle.fast_channel.specs.Level.{LevelOutcome}
 use Rattle.header.specs.declared.Fields.{Fields}
 use Rattle.header.specs.declared.Header.{Header}
-use Rattle.header.specs.declared.CodeAnswer.{CodeAnswer}
-use Rattle.header.specs.declared.CodeAnswer.TheVariants as coding
-use Rattle.header_reading.specs.declared.ReadAnswer.{ReadAnswer}
-use Rattle.header_reading.specs.declared.ReadAnswer.TheVariants as reading
-use Rattle.opening.specs.Opening.{open_table, open_number, OpenOutcome}
-use Rattle.opening.specs.declared.OpenAnswer.{OpenAnswer}
-use Rattle.opening.specs.declared.OpenAnswer.TheVariants as opening
-use Rattle.repairing.specs.Repairing.{repair_table, repair_number, RepairOutcome, shown_bytes, shown_place}
-use Rattle.repairing.specs.declared.RepairAnswer.{RepairAnswer}
-use Rattle.repairing.specs.declared.RepairAnswer.TheVariants as repairing
-use Rattle.sender.specs.Put.{put_table, put_number, PutOutcome}
-use Rattle.sender.specs.Waiting.{waiting_table, waiting_number, WaitingOutcome}
-use Rattle.sending.specs.Next.{next_table, next_number, NextOutcome}
+use Rattle.opening.specs.Opening.{open_table, OpenOutcome}
+use Rattle.repairing.specs.Repairing.{repair_table, RepairOutcome, shown_bytes, shown_place}
+use Rattle.sender.specs.Put.{put_table, PutOutcome}
+use Rattle.sender.specs.Waiting.{waiting_table, WaitingOutcome}
+use Rattle.sending.specs.Next.{next_table, NextOutcome}
 use Rattle.sender.specs.declared.Sender.{Sender}
-use Rattle.sender.specs.declared.PutAnswer.{PutAnswer}
-use Rattle.sender.specs.declared.PutAnswer.TheVariants as putting
-use Rattle.sender.specs.declared.WaitingAnswer.{WaitingAnswer}
-use Rattle.sender.specs.declared.WaitingAnswer.TheVariants as counting
-use Rattle.sending.specs.declared.NextAnswer.{NextAnswer}
-use Rattle.sending.specs.declared.NextAnswer.TheVariants as sending
-use Rattle.receiver.specs.Applying.{apply_table, apply_number, ApplyOutcome}
+use Rattle.receiver.specs.Applying.{apply_table, ApplyOutcome}
 use Rattle.receiver.specs.declared.Receiver.{Receiver}
-use Rattle.receiver.specs.declared.ApplyAnswer.{ApplyAnswer}
-use Rattle.receiver.specs.declared.ApplyAnswer.TheVariants as applying
-use Rattle.list.specs.Entries.{entry_table, entry_number, EntryOutcome, PacketOutcome}
-use Rattle.list.specs.declared.EntryAnswer.{EntryAnswer}
-use Rattle.list.specs.declared.EntryAnswer.TheVariants as listing
+use Rattle.list.specs.Entries.{entry_table, EntryOutcome, PacketOutcome}
 
 -- A call with its inputs: the answers, and contents of the lent buffers after it, with which it meets its contract; what the buffers held before; the paper's
 -- number of an answer (01, last section), 0 for none; which answers refuse, and with which number; the call's table of refusals.
@@ -56,45 +40,41 @@ pub record Demand1 {Answer Lent : Type 0} (Meets : Answer → Lent → Type 0) (
   pub refusal : (answer : Answer) (number : ℕ) (after : Lent) → Meets answer after → Refuses answer number
       → (number ≡ 0 → ⊥) × (after ≡ before)
 
+-- An answer refuses with a number, if it is the answer for the refusal that has this number in the paper's table: `refused` gives the answer for each.
+abbrev pub RefusesWith : {Answer : Type 0} → (Refusal → Answer) → Answer → ℕ → Type 0
+RefusesWith refused answer number = (refusal : Refusal) × ((answer ≡ refused refusal) × (number_of refusal ≡ number))
+
+-- of a call that answers a Result: it refuses with the error that has the number
+abbrev pub RefusesByTable : {Done Lent : Type 0} → (Result Done Refusal → Lent → Type 0) → Lent → List Row → Type 0
+RefusesByTable Meets before table = Demand1 Meets before number_in (RefusesWith Err) table
+
+-- of a call that refuses nothing, and writes nothing
+abbrev pub RefusesNothing : {Answer : Type 0} → (Answer → Type 0) → Type 0
+RefusesNothing Meets = Demand1 {Lent = Unit {0}} (λ answer after. Meets answer) tt (λ answer. 0) (λ answer number. ⊥) []
+
 -- The calls, each with all its inputs.
 pub record EveryCall : Type 0 where
   pub put : (queue : List ℕ) (sender : Sender) (packet : List ℕ)
-      → Demand1 {Answer = PutAnswer} (PutOutcome queue sender packet) queue put_number (λ answer number. answer ≡ putting.Refused number)
-      (put_table queue sender.start sender.used packet)
+      → RefusesByTable (PutOutcome queue sender packet) queue (put_table queue sender.start sender.used packet)
   pub next_frame : (taps : ℕ) (fields : Fields) (sender : Sender) (queue out : List ℕ)
-      → Demand1 {Answer = NextAnswer} {Lent = List ℕ × List ℕ} (λ answer after. NextOutcome taps fields sender queue out answer after.0 after.1)
-      (queue, out) next_number (λ answer number. answer ≡ sending.Refused number) (next_table taps fields sender.start sender.used queue out)
-  pub open_frame : (taps : ℕ) (frame area : List ℕ)
-      → Demand1 {Answer = OpenAnswer} (OpenOutcome taps frame area) area open_number (λ answer number. answer ≡ opening.Refused number)
-      (open_table taps frame area)
-  pub repair : (taps : ℕ) (part scratch : List ℕ)
-      → Demand1 {Answer = RepairAnswer} (RepairOutcome taps part scratch) scratch repair_number (λ answer number. answer ≡ repairing.Refused number)
-      (repair_table taps part scratch)
+      → RefusesByTable {Lent = List ℕ × List ℕ} (λ answer after. NextOutcome taps fields sender queue out answer after.0 after.1)
+      (queue, out) (next_table taps fields sender.start sender.used queue out)
+  pub open_frame : (taps : ℕ) (frame area : List ℕ) → RefusesByTable (OpenOutcome taps frame area) area (open_table taps frame area)
+  pub repair : (taps : ℕ) (part scratch : List ℕ) → RefusesByTable (RepairOutcome taps part scratch) scratch (repair_table taps part scratch)
   pub apply : (header : Header) (area : List ℕ) (receiver : Receiver) (hold list : List ℕ)
-      → Demand1 {Answer = ApplyAnswer} {Lent = List ℕ × List ℕ}
-      (λ answer after. ApplyOutcome header area receiver hold list answer after.0 after.1)
-      (hold, list) apply_number (λ answer number. answer ≡ applying.Refused number) (apply_table header area receiver hold list)
-  pub code_header : (header : Header) (out : List ℕ)
-      → Demand1 {Answer = CodeAnswer} (CodeHeaderOutcome header out) out code_number
-      (λ answer number. answer ≡ coding.Refused number) (code_table header out)
+      → RefusesByTable {Lent = List ℕ × List ℕ} (λ answer after. ApplyOutcome header area receiver hold list answer after.0 after.1)
+      (hold, list) (apply_table header area receiver hold list)
+  pub code_header : (header : Header) (out : List ℕ) → RefusesByTable (CodeHeaderOutcome header out) out (code_table header out)
   -- the calls below write nothing; the last three refuse nothing
   pub waiting : (queue : List ℕ) (sender : Sender)
-      → Demand1 {Answer = WaitingAnswer} {Lent = Unit {0}} (λ answer after. WaitingOutcome queue sender answer) tt waiting_number
-      (λ answer number. answer ≡ counting.Refused number) (waiting_table queue sender.start sender.used)
-  pub read_header_lem : (bytes : List ℕ)
-      → Demand1 {Answer = ReadAnswer} {Lent = Unit {0}} (λ answer after. ReadHeaderOutcome bytes answer) tt read_number
-      (λ answer number. answer ≡ reading.Refused number) (read_table bytes)
+      → RefusesByTable {Lent = Unit {0}} (λ answer after. WaitingOutcome queue sender answer) tt (waiting_table queue sender.start sender.used)
+  pub read : (bytes : List ℕ) → RefusesByTable {Lent = Unit {0}} (λ answer after. ReadHeaderOutcome bytes answer) tt (read_table bytes)
   pub entry : (list : List ℕ) (position : ℕ)
-      → Demand1 {Answer = EntryAnswer} {Lent = Unit {0}} (λ answer after. EntryOutcome list position answer) tt entry_number
-      (λ answer number. answer ≡ listing.Refused number) (entry_table list position)
+      → RefusesByTable {Lent = Unit {0}} (λ answer after. EntryOutcome list position answer) tt (entry_table list position)
   -- the bytes handed back after a repair and where they stand; an empty part at a refusal of `repair`
-  pub shown : (answer : RepairAnswer) (part scratch : Bor (List ℕ))
-      → Demand1 {Answer = List ℕ × (ℕ × ℕ)} {Lent = Unit {0}}
-      (λ r after. (r.0 ≡ shown_bytes answer part.now scratch.now) × (r.1 ≡ shown_place answer part scratch)) tt (λ r. 0)
-      (λ r number. ⊥) []
+  pub shown : (answer : Result ℕ Refusal) (part scratch : Bor (List ℕ))
+      → RefusesNothing {Answer = List ℕ × (ℕ × ℕ)} (λ r. (r.0 ≡ shown_bytes answer part.now scratch.now) × (r.1 ≡ shown_place answer part scratch))
   -- the bytes handed back and where they stand; an empty part at an end or a refusal of `entry`
   pub packet : (list : List ℕ) (from : ℕ × ℕ) (position : ℕ)
-      → Demand1 {Answer = List ℕ × (ℕ × ℕ)} {Lent = Unit {0}}
-      (λ answer after. PacketOutcome list from position answer.0 answer.1) tt (λ answer. 0)
-      (λ answer number. ⊥) []
-  pub level : (code : ℕ) → Demand1 {Answer = ℤ} {Lent = Unit {0}} (λ answer after. LevelOutcome code answer) tt (λ answer. 0) (λ answer number. ⊥) []
+      → RefusesNothing {Answer = List ℕ × (ℕ × ℕ)} (λ answer. PacketOutcome list from position answer.0 answer.1)
+  pub level : (code : ℕ) → RefusesNothing (LevelOutcome code)

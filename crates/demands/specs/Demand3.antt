@@ -2,16 +2,17 @@
 -- given, what it answered and the lent bytes that it left. `SenderCalls` and `ReceiverCalls` ask of each call that it met its contract, the record that its
 -- `ensures` names, in the state and with the bytes that the call before it left. So whatever the functions do is in a history, and no model of them stands
 -- beside. `demand3_holds` in proofs/Demand3.antt: every history keeps the promise.
-use Rattle.std.specs.Prelude.{◌≡◌, true, List, [], ◌∷◌, map, ℕ, zero, suc, ◌≤◌, length, take}
+use Rattle.std.specs.Prelude.{Result, Ok, Err, ◌≡◌, true, List, [], ◌∷◌, map, ℕ, zero, suc, ◌≤◌, length, take}
 use Rattle.std.proofs.Math.Option.{Option, none, some}
 use Rattle.basics.specs.Lists.{Bytes}
 use Rattle.basics.specs.Sizes.{area_size, frame_size, hold_size, list_size}
+use Rattle.refusals.specs.Numbers.{number_of}
+use Rattle.refusals.specs.declared.Refusal.{Refusal}
 use Rattle.scrambler.specs.Scrambler.{taps_allowed}
 use Rattle.header.specs.declared.Fields.{Fields}
 use Rattle.opening.specs.Opening.{opened_header, opened_area, OpenOutcome}
 use Rattle.opening.specs.NearFrame.{NearFrame}
-use Rattle.opening.specs.declared.OpenAnswer.{OpenAnswer}
-use Rattle.opening.specs.declared.OpenAnswer.TheVariants as opening
+use Rattle.opening.specs.declared.Opened.{Opened}
 use Rattle.link.specs.Link.{Packet, Piece, Queue, Answer, taken, refused}
 use Rattle.link.specs.Ledger.{Mark, lost, accepted, Limit}
 use Rattle.link.specs.Demand3.{Demand3}
@@ -19,31 +20,27 @@ use Rattle.marks.specs.Queue.{waiting_in}
 use Rattle.sender.specs.Put.{fresh_sender, PutOutcome}
 use Rattle.sending.specs.Next.{NextOutcome}
 use Rattle.sender.specs.declared.Sender.{Sender}
-use Rattle.sender.specs.declared.PutAnswer.{PutAnswer}
-use Rattle.sender.specs.declared.PutAnswer.TheVariants as put
-use Rattle.sending.specs.declared.NextAnswer.{NextAnswer}
-use Rattle.sending.specs.declared.NextAnswer.TheVariants as next
+use Rattle.sending.specs.declared.Sent.{Sent}
 use Rattle.receiver.specs.Applying.{fresh_receiver, pieces_of, or_none, ApplyOutcome, receiver_after}
 use Rattle.receiver.specs.declared.Receiver.{Receiver}
-use Rattle.receiver.specs.declared.ApplyAnswer.{ApplyAnswer}
-use Rattle.receiver.specs.declared.ApplyAnswer.TheVariants as apply
+use Rattle.receiver.specs.declared.Applied.{Applied}
 use Rattle.list.specs.Entries.{packets_read}
 
 -- ---------------------------------------------------------------- the sender's calls, refused ones among them
 
 -- what was given beside the sender's state and its queue; the answer; the bytes of the queue and of the frame's buffer after the call
 pub data SenderCall : Type 0 where
-  call_put : (packet : List ℕ) (answer : PutAnswer) (queue : List ℕ) → SenderCall
-  call_next : (fields : Fields) (out : List ℕ) (answer : NextAnswer) (queue after : List ℕ) → SenderCall
+  call_put : (packet : List ℕ) (answer : Result Sender Refusal) (queue : List ℕ) → SenderCall
+  call_next : (fields : Fields) (out : List ℕ) (answer : Result Sent Refusal) (queue after : List ℕ) → SenderCall
 
 -- the state for the next call: a refusal brings no new one
-abbrev pub put_leaves : Sender → PutAnswer → Sender
-put_leaves sender (put.Taken after) = after
-put_leaves sender (put.Refused number) = sender
+abbrev pub put_leaves : Sender → Result Sender Refusal → Sender
+put_leaves sender (Ok after) = after
+put_leaves sender (Err refusal) = sender
 
-abbrev pub next_leaves : Sender → NextAnswer → Sender
-next_leaves sender (next.Sent after kind) = after
-next_leaves sender (next.Refused number) = sender
+abbrev pub next_leaves : Sender → Result Sent Refusal → Sender
+next_leaves sender (Ok sent) = sent.sender
+next_leaves sender (Err refusal) = sender
 
 -- each call meets its contract, given the state and the queue that the call before it left; a packet is bytes, as any slice of u8 is
 abbrev pub SenderCalls : ℕ → Sender → List ℕ → List SenderCall → Type 0
@@ -56,16 +53,16 @@ SenderCalls taps sender queue (call_next fields out answer left after ∷ calls)
 -- the packets that were taken
 abbrev pub packets_put : List SenderCall → List Packet
 packets_put [] = []
-packets_put (call_put packet (put.Taken after) queue ∷ calls) = packet ∷ packets_put calls
-packets_put (call_put packet (put.Refused number) queue ∷ calls) = packets_put calls
+packets_put (call_put packet (Ok after) queue ∷ calls) = packet ∷ packets_put calls
+packets_put (call_put packet (Err refusal) queue ∷ calls) = packets_put calls
 packets_put (call_next fields out answer queue after ∷ calls) = packets_put calls
 
 -- the frames that were sent: 2,081 bytes at the front of each call's buffer
 abbrev pub frames_sent : List SenderCall → List (List ℕ)
 frames_sent [] = []
 frames_sent (call_put packet answer queue ∷ calls) = frames_sent calls
-frames_sent (call_next fields out (next.Sent sender kind) queue after ∷ calls) = take frame_size after ∷ frames_sent calls
-frames_sent (call_next fields out (next.Refused number) queue after ∷ calls) = frames_sent calls
+frames_sent (call_next fields out (Ok sent) queue after ∷ calls) = take frame_size after ∷ frames_sent calls
+frames_sent (call_next fields out (Err refusal) queue after ∷ calls) = frames_sent calls
 
 -- what waits in the queue after all calls
 abbrev pub queue_left : Sender → List ℕ → List SenderCall → Queue
@@ -83,18 +80,18 @@ pieces_carried taps frame = or_none (pieces_of (opened_header taps frame).kind (
 -- came of both; the bytes of the hold and of the list after them.
 pub record BothCalls : Type 0 where
   pub area : List ℕ
-  pub opened : OpenAnswer
+  pub opened : Result Opened Refusal
   pub area' : List ℕ
   pub list : List ℕ
-  pub answer : ApplyAnswer
+  pub answer : Result Applied Refusal
   pub hold' : List ℕ
   pub list' : List ℕ
 
 -- what was opened is applied, once and as opened; where `open` refused, that refusal stands, and nothing is applied
-abbrev pub AppliedAs : OpenAnswer → List ℕ → Receiver → List ℕ → List ℕ → ApplyAnswer → List ℕ → List ℕ → Type 0
-AppliedAs (opening.Opened header repaired) area receiver hold list answer hold' list' = ApplyOutcome header area receiver hold list answer hold' list'
-AppliedAs (opening.Refused number) area receiver hold list answer hold' list' =
-    (answer ≡ apply.Refused number) × (hold' ≡ hold) × (list' ≡ list)
+abbrev pub AppliedAs : Result Opened Refusal → List ℕ → Receiver → List ℕ → List ℕ → Result Applied Refusal → List ℕ → List ℕ → Type 0
+AppliedAs (Ok opened) area receiver hold list answer hold' list' = ApplyOutcome opened.header area receiver hold list answer hold' list'
+AppliedAs (Err refusal) area receiver hold list answer hold' list' =
+    (answer ≡ Err refusal) × (hold' ≡ hold) × (list' ≡ list)
 
 -- both meet their contracts, one after the other; the caller cuts the area to its 1,908 bytes
 abbrev pub Receives : ℕ → List ℕ → Receiver → List ℕ → BothCalls → Type 0
@@ -107,7 +104,7 @@ Receives taps frame receiver hold both =
 pub data Fate : Type 0 where
   missing : Fate
   arrives : (came : List ℕ) (both : BothCalls) → Fate
-  damaged : (other : List ℕ) (number : ℕ) (both : BothCalls) → Fate
+  damaged : (other : List ℕ) (refusal : Refusal) (both : BothCalls) → Fate
 
 -- The frames come in the order in which they were sent, once each, and nothing else comes. Each is received before the next, in the state and with the hold
 -- that the one before it left; one that comes near what was sent, with any buffers of the listed sizes for area and list. Frames past the end of the fates
@@ -119,14 +116,14 @@ ReceiverCalls taps receiver hold (missing ∷ fates) (frame ∷ frames) = Receiv
 ReceiverCalls taps receiver hold (arrives came both ∷ fates) (frame ∷ frames) =
     NearFrame came frame × (area_size ≤ length both.area) × (list_size ≤ length both.list) × Receives taps came receiver hold both
     × ReceiverCalls taps (receiver_after receiver both.answer) both.hold' fates frames
-ReceiverCalls taps receiver hold (damaged other number both ∷ fates) (frame ∷ frames) =
-    Receives taps other receiver hold both × (both.answer ≡ apply.Refused number) × ReceiverCalls taps receiver both.hold' fates frames
+ReceiverCalls taps receiver hold (damaged other refusal both ∷ fates) (frame ∷ frames) =
+    Receives taps other receiver hold both × (both.answer ≡ Err refusal) × ReceiverCalls taps receiver both.hold' fates frames
 
 -- whether each frame was accepted: mark i is the mark of frame i
 abbrev pub mark_of : Fate → Mark
 mark_of missing = lost
 mark_of (arrives came both) = accepted
-mark_of (damaged other number both) = lost
+mark_of (damaged other refusal both) = lost
 
 abbrev pub marks : List Fate → ℕ → Mark
 marks [] i = lost
@@ -139,15 +136,15 @@ abbrev pub read_out : ℕ → Option (List Packet) → Answer
 read_out missed none = refused 16
 read_out missed (some packets) = taken missed packets
 
-abbrev pub learned_from : ApplyAnswer → List ℕ → Answer
-learned_from (apply.Applied missed packets listed receiver) list = read_out missed (packets_read (take listed list))
-learned_from (apply.Refused number) list = refused number
+abbrev pub learned_from : Result Applied Refusal → List ℕ → Answer
+learned_from (Ok applied) list = read_out applied.missed (packets_read (take applied.listed list))
+learned_from (Err refusal) list = refused (number_of refusal)
 
 abbrev pub learned : List Fate → List Answer
 learned [] = []
 learned (missing ∷ fates) = learned fates
 learned (arrives came both ∷ fates) = learned_from both.answer both.list' ∷ learned fates
-learned (damaged other number both ∷ fates) = learned fates
+learned (damaged other refusal both ∷ fates) = learned fates
 
 -- ---------------------------------------------------------------- the demand
 
@@ -157,7 +154,7 @@ pub record History (taps : ℕ) (queue hold : List ℕ) (calls : List SenderCall
   pub allowed : taps_allowed taps ≡ true
   -- any first contents of the lent buffers: the queue's (of another size than 32,768 it is refused by every call) and the hold's;
   pub queue_bytes : Bytes queue
-  pub hold_size_lem : length hold ≡ hold_size
+  pub hold_sized : length hold ≡ hold_size
   -- calls to a fresh sender, in any order, refused ones among them, with any header fields and any frame buffers;
   pub sent : SenderCalls taps fresh_sender queue calls
   -- a fresh receiver, and what came to it;

@@ -6,10 +6,10 @@ use Prim.Native.Nat.{ℕ, ◌+◌}
 use native.Mathlib.Omega.{arith}
 use lib.Dec.{eqb}
 use lib.ListN.{length, take, drop}
-use borrow.Author.Tests.{eqb-true, eqb-false}
-use Rattle.list.specs.Entries.{length_at, entry_answer, packet_at, place_at}
+use borrow.Author.Tests.{eqb-true}
+use Rattle.refusals.specs.Table.{first_of, by}
+use Rattle.list.specs.Entries.{length_at, entry_refusal, entry_answer, packet_at, place_at}
 use Rattle.list.proofs.Lengths.{no_mark}
-use Rattle.list.proofs.Calls.{at_end, at_refusal, at_packet}
 use Rattle.flat.specs.Answers.{flat_packet}
 use Rattle.flat.specs.declared.FlatPacket.{FlatPacket}
 
@@ -27,15 +27,13 @@ module _ (list : List ℕ) (position : ℕ) where
   whole e = record { bytes = refl; start = rw e }
 
   pub packet_placed : Placed list position (flat_packet (entry_answer list position))
+  unfolding entry_answer entry_refusal first_of by
   packet_placed = go (eqb position (length list)) refl (eqb (length_at list position) 0) refl
     where
       go : (t : Bool) → eqb position (length list) ≡ t → (u : Bool) → eqb (length_at list position) 0 ≡ u
           → Placed list position (flat_packet (entry_answer list position))
       go true e u f =
           let end = eqb-true position (length list) e in
-          rw (← at_end list position end) (empty (sym (no_mark list position (omega arith))))
-      go false e true f =
-          let none = eqb-true (length_at list position) 0 f in
-          rw (← at_refusal list position (eqb-false position (length list) e) 0 (sym none) refl) (empty none)
-      go false e false f =
-          rw (← at_packet list position (eqb-false position (length list) e) (length_at list position) refl (eqb-false (length_at list position) 0 f)) (whole f)
+          rw e (empty (sym (no_mark list position (omega arith))))
+      go false e true f = rw (e, f) (empty (eqb-true (length_at list position) 0 f))
+      go false e false f = rw (e, f) (whole f)
