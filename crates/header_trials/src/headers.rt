@@ -1,6 +1,6 @@
 // The kinds of record that try the level and the bare header.
 use crate::fields;
-use flat::headers;
+use flat::FlatCode;
 use header_reading::ReadAnswer;
 use outcome::Outcome;
 use vectors::numbers;
@@ -21,7 +21,7 @@ pub fn level(body: &[u8]) -> Outcome {
 
 // The refusal's number, 0 for none.
 fn number_coded(given: &[u8; 24], bytes: &mut [u8]) -> u8 {
-    headers::code_number(header::code_header(fields::header(given), bytes))
+    FlatCode::from(header::code_header(fields::header(given), bytes)).refusal
 }
 
 // The refusal's number, and the bytes lent after the call.

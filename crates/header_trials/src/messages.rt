@@ -39,7 +39,7 @@ pub fn numbers(channel: FastChannel) -> Message {
     match channel {
         FastChannel::Reserved(opcode) => of_kind(RESERVED, opcode as u16),
         FastChannel::Absent => of_kind(ABSENT, 0),
-        _ => of_opcode(messages::flat_message(channel)),
+        _ => of_opcode(FlatMessage::from(channel)),
     }
 }
 
