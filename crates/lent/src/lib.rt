@@ -22,9 +22,9 @@ pub fn are_same(a: &[u8], b: &[u8]) -> bool
     a == b
 }
 
-// Whether all of some bytes are 0.
+// Whether all of some bytes are 0: they are gathered, sixteen lanes at once, and not asked one by one.
 pub fn are_zeros(bytes: &[u8]) -> bool
     ensures { result ≡ same bytes.now (zeros (length bytes.now)) }
 {
-    bytes.iter().all(|byte| *byte == 0)
+    bytes.iter().fold(0, |all, byte| all | *byte) == 0
 }

@@ -1,12 +1,12 @@
--- The library's test of every byte, and of one that fails (`cases_from_all`), is the definition's test against zeros (`zeros_test`).
-use Rattle.std.proofs.Common.{rules, ◌≡◌}
-use borrow.Author.Tests.{tests}
-use Rattle.std.proofs.lemmas.Iterator.{cases_from_all, YieldsList-from_slice}
+-- What the library's fold gathers is 0 exactly where the definition's test against zeros is true (`zeros_test`).
+use Rattle.std.proofs.Common.{rules, ◌≡◌, ◌∙◌, ap}
+use lib.Dec.{eqb}
+use lib.Bits.{bit_or}
+use Rattle.std.specs.List.{fold}
 use Rattle.lent.proofs.Zeros.{zeros_test}
 use Rattle.lent.proofs.are_zeros.Goals as goal
 
 pub returns : goal.returns
 returns c =
-    zeros_test c.all.result c.args.bytes.now
-    (cases_from_all _ _ _ (λ x. x ≡ 0) (λ x. x ≡ 0 → ⊥) c.all.ensures.ran (YieldsList-from_slice c.args.bytes.now cc) (λ x q k. search (rules, tests))
-    (λ x q k. search (rules, tests)))
+    let gathered : c.fold.result ≡ fold (λ all byte. bit_or all byte) 0 c.args.bytes.now = search rules in
+    ap (λ r. eqb r 0) gathered ∙ zeros_test c.args.bytes.now
