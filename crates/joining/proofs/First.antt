@@ -3,14 +3,12 @@ use mathlib.Core.Path.{◌≡◌, refl, sym, ap, ◌∙◌}
 use mathlib.Core.Bool.{Bool, true, false, cond}
 use mathlib.Core.Option.{Option, none, some}
 use mathlib.Core.List.{List, [], ◌∷◌}
-use Prim.Native.Nat.{ℕ, ◌+◌, ◌-◌, ◌≤◌, ◌<◌}
-use native.Mathlib.Nat.{add-sub_cancel_left}
+use Prim.Native.Nat.{ℕ, ◌+◌}
 use native.Mathlib.Omega.{arith}
-use lib.ListN.{length, take, drop}
-use lib.Dec.{leb, eqb}
-use borrow.Author.Tests.{eqb-true, leb-true, leb-false, le-leb, lt-leb}
-use Rattle.link.specs.Link.{Piece, most_joined, fits_piece, fits}
-use Rattle.link.proofs.Hold.{fits_by_sum}
+use lib.ListN.{length}
+use lib.Dec.{eqb}
+use borrow.Author.Tests.{eqb-true}
+use Rattle.link.specs.Link.{Piece, fits_piece, fits}
 use Rattle.packing.specs.declared.Record.{Record}
 use Rattle.std.specs.Prelude.{Some, None, Ok, Err}
 use Rattle.refusals.specs.declared.Refusal.{Refusal}
@@ -19,26 +17,10 @@ use Rattle.packing.proofs.Records.{at_end, read_record, read_against}
 
 -- ---- whether a record fits
 
--- one with "first", and one with nothing held, does
+-- one with "first" does
 pub fits_first : (held : List ℕ) (first last : Bool) (bytes : List ℕ) → first ≡ true → true ≡ fits_piece held first last bytes
 fits_first [] first last bytes e = refl
 fits_first (x ∷ held) first last bytes e = rw e
-
-pub fits_alone : (held : List ℕ) (first last : Bool) (bytes : List ℕ) → length held ≡ 0 → true ≡ fits_piece held first last bytes
-fits_alone [] first last bytes e = refl
-fits_alone (x ∷ held) first last bytes e = absurd (omega arith)
-
--- any other by the sum
-module _ (held : List ℕ) (first last : Bool) (bytes : List ℕ) (e : first ≡ false) (n : length held ≡ 0 → ⊥) (most : ℕ) (m : most ≡ most_joined last) where
-  pub fits_not : most < length held → false ≡ fits_piece held first last bytes
-  fits_not h = sym (fits_by_sum held first last bytes e n ∙ lt-leb (length held + length bytes) (most_joined last) (omega arith))
-
-  pub fits_rest : length held ≤ most → leb (length bytes) (most - length held) ≡ fits_piece held first last bytes
-  fits_rest h = go (leb (length bytes) (most - length held)) refl ∙ sym (fits_by_sum held first last bytes e n)
-    where
-      go : (t : Bool) → leb (length bytes) (most - length held) ≡ t → t ≡ leb (length held + length bytes) (most_joined last)
-      go true f = sym (le-leb (length held + length bytes) (most_joined last) (omega (arith, leb-true (length bytes) (most - length held) f)))
-      go false f = sym (lt-leb (length held + length bytes) (most_joined last) (omega (arith, leb-false (length bytes) (most - length held) f)))
 
 -- ---- an area that is read has 1,908 bytes, and is read from position 0 on
 
@@ -50,27 +32,21 @@ from_start area pieces = go (eqb (length area) 1908) refl
     go true long e = (eqb-true (length area) 1908 long, e)
     go false long e = let z : ◌≡◌ {A = ℕ} 0 1 = cc in absurd (omega arith)
 
--- the part of the area that the code takes for a record
-pub part_is : (area : List ℕ) (found : Record)
-    → take (found.start + found.length - found.start) (drop found.start area) ≡ (piece_of area found).bytes
-part_is area found = rw add-sub_cancel_left
-
 -- ---- the first record: there is one, and it decides
 
 module _ (held area : List ℕ) (pieces : List Piece) (whole : read area ≡ some pieces) where
   pub no_end : record_at area 0 ≡ Ok None → true ≡ fits held pieces
   no_end here = absurd (omega (arith, (at_end area 0 here).0))
 
-  pub no_against : record_at area 0 ≡ Against → true ≡ fits held pieces
-  no_against here =
-      let none-are : some pieces ≡ none = sym (from_start area pieces whole).1 ∙ read_against area 0 here in
+  pub no_against : (refusal : Refusal) → record_at area 0 ≡ Err refusal → true ≡ fits held pieces
+  no_against refusal here =
+      let none-are : some pieces ≡ none = sym (from_start area pieces whole).1 ∙ read_against area 0 refusal here in
       let z : ◌≡◌ {A = ℕ} 0 1 = cc in
       absurd (omega arith)
 
   pub by_first : (found : Record) → record_at area 0 ≡ Ok (Some found)
-      → fits_piece held found.first found.last (take (found.start + found.length - found.start) (drop found.start area)) ≡ fits held pieces
-  by_first found here =
-      rw (part_is area found) (go (read_from area (found.start + found.length)) (sym (from_start area pieces whole).1 ∙ read_record area 0 found here))
+      → fits_piece held found.first found.last (piece_of area found).bytes ≡ fits held pieces
+  by_first found here = go (read_from area (found.start + found.length)) (sym (from_start area pieces whole).1 ∙ read_record area 0 found here)
     where
       piece : Piece
       piece = piece_of area found

@@ -1,5 +1,5 @@
 -- One record is joined: what is written into the list and the hold, and what that is to `on_piece`.
-use mathlib.Core.Path.{◌≡◌, refl, sym, ap, ◌∙◌, subst}
+use mathlib.Core.Path.{◌≡◌, refl, sym, ap, ◌∙◌}
 use mathlib.Core.Bool.{Bool, true, false}
 use mathlib.Core.List.{List, [], ◌∷◌, ◌++◌, append-nil}
 use Prim.Native.Nat.{ℕ, ◌+◌, ◌≤◌}
@@ -7,12 +7,10 @@ use native.Mathlib.Nat.{add-zero}
 use native.Mathlib.Omega.{arith}
 use lib.ListN.{length, take, length-append}
 use lib.Seq.{length-take-le}
-use borrow.Author.Tests.{leb-true}
 use Rattle.lent.specs.Written.{written}
 use Rattle.lent.proofs.Written.{written_append, written_nothing, written_behind}
 use Rattle.link.specs.Link.{on_piece, most_joined}
 use Rattle.link.specs.Store.{marked, layout_packets}
-use Rattle.link.proofs.Hold.{fits_by_sum}
 use Rattle.joining.specs.declared.growing.Joined.{Joined}
 use Rattle.joining.specs.Growing.{grown, Ready, Growable, StepOutcome}
 
@@ -67,60 +65,14 @@ module _ {part : ℕ} {last : Bool} {bytes : List ℕ} {before : Joined} {hold l
     list_bytes = sym (written_nothing list before.listed);
   })
 
--- ---- a record by its marks
+-- ---- with nothing held, a record without "first" is skipped
 
--- "first" drops what is held
-starts : (held : List ℕ) (first last : Bool) (bytes : List ℕ) → first ≡ true → grown [] last bytes ≡ on_piece held first last bytes
-starts held first last bytes e = rw e (go last)
-  where
-    go : (b : Bool) → grown [] b bytes ≡ on_piece held true b bytes
-    go true = refl
-    go false = refl
-
-continues : (held : List ℕ) (first last : Bool) (bytes : List ℕ) → first ≡ false → (length held ≡ 0 → ⊥)
-    → grown held last bytes ≡ on_piece held first last bytes
-continues [] first last bytes e n = absurd (n refl)
-continues (x ∷ held) first last bytes e n = rw e (go last)
-  where
-    go : (b : Bool) → grown (x ∷ held) b bytes ≡ on_piece (x ∷ held) false b bytes
-    go true = refl
-    go false = refl
-
-module _ {first last : Bool} {bytes : List ℕ} {before : Joined} {hold list : List ℕ} (r : Ready first last bytes before hold list) where
-  held_length : length (take before.held hold) ≡ before.held
-  held_length = length-take-le before.held hold (omega (arith, r.hold_long, r.held_low))
-
-  held_some : (before.held ≡ 0 → ⊥) → length (take before.held hold) ≡ 0 → ⊥
-  held_some n z = n (sym held_length ∙ z)
-
-  pub first_fit : 0 + length bytes ≤ most_joined last
-  first_fit = go last
-    where
-      go : (b : Bool) → 0 + length bytes ≤ most_joined b
-      go true = omega (arith, r.short)
-      go false = omega (arith, r.short)
-
-  pub held_fit : first ≡ false → (before.held ≡ 0 → ⊥) → before.held + length bytes ≤ most_joined last
-  held_fit e n =
-      let h = take before.held hold in
-      let s = sym (fits_by_sum h first last bytes e (held_some n)) ∙ r.fitting in
-      omega (arith, leb-true (length h + length bytes) (most_joined last) s, held_length)
-
-  pub skips : first ≡ false → before.held ≡ 0 → StepOutcome (on_piece (take before.held hold) first last bytes) before hold list before hold list
-  skips e z = rw (e, z) (record {
-    held = refl;
-    packets = sym (add-zero before.packets);
-    listed = sym (add-zero before.listed);
-    hold_bytes = sym (written_nothing hold 0);
-    list_bytes = sym (written_nothing list before.listed);
-  })
-
-  module _ {result : Joined} {hold' list' : List ℕ} where
-    pub starts_anew : first ≡ true → StepOutcome (grown [] last bytes) before hold list result hold' list'
-        → StepOutcome (on_piece (take before.held hold) first last bytes) before hold list result hold' list'
-    starts_anew e o = subst (λ s. StepOutcome s before hold list result hold' list') (starts (take before.held hold) first last bytes e) o
-
-    pub goes_behind : first ≡ false → (before.held ≡ 0 → ⊥) → StepOutcome (grown (take before.held hold) last bytes) before hold list result hold' list'
-        → StepOutcome (on_piece (take before.held hold) first last bytes) before hold list result hold' list'
-    goes_behind e n o =
-        subst (λ s. StepOutcome s before hold list result hold' list') (continues (take before.held hold) first last bytes e (held_some n)) o
+pub skips : {first last : Bool} {bytes : List ℕ} {before : Joined} {hold list : List ℕ} → Ready first last bytes before hold list → first ≡ false → before.held ≡ 0
+    → StepOutcome (on_piece (take before.held hold) first last bytes) before hold list before hold list
+skips {before = before} {hold = hold} {list = list} r e z = rw (e, z) (record {
+  held = refl;
+  packets = sym (add-zero before.packets);
+  listed = sym (add-zero before.listed);
+  hold_bytes = sym (written_nothing hold 0);
+  list_bytes = sym (written_nothing list before.listed);
+})

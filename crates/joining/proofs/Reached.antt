@@ -3,10 +3,10 @@ use mathlib.Core.Path.{◌≡◌, refl, sym, ap, ◌∙◌, subst}
 use mathlib.Core.Bool.{Bool, true, false}
 use mathlib.Core.Option.{Option, none, some}
 use mathlib.Core.List.{List, [], ◌∷◌, ◌++◌, append-nil, append_assoc}
-use Prim.Native.Nat.{ℕ, ◌+◌, ◌-◌, ◌≤◌, ◌<◌}
+use Prim.Native.Nat.{ℕ, ◌+◌, ◌≤◌, ◌<◌}
 use native.Mathlib.Nat.{zero-add}
 use native.Mathlib.Omega.{arith}
-use lib.ListN.{length, take, drop, length-append}
+use lib.ListN.{length, take, length-append}
 use lib.Seq.{length-take-le}
 use Rattle.lent.specs.Written.{written}
 use Rattle.lent.proofs.Written.{take_written, written_append, written_length, written_nothing, written_own}
@@ -18,7 +18,7 @@ use Rattle.std.specs.Prelude.{Some, None, Ok, Err}
 use Rattle.refusals.specs.declared.Refusal.{Refusal}
 use Rattle.packing.specs.Records.{record_at, piece_of, with_piece, read_from, read}
 use Rattle.packing.proofs.Records.{Lies, lies, piece_length, read_record, read_end, read_against, read_shape}
-use Rattle.joining.proofs.First.{from_start, part_is}
+use Rattle.joining.proofs.First.{from_start}
 use Rattle.joining.specs.declared.growing.Joined.{Joined}
 use Rattle.joining.specs.Growing.{Ready, StepOutcome}
 use Rattle.joining.specs.Joining.{Joinable, JoinOutcome}
@@ -102,9 +102,9 @@ module _ {area : List ℕ} {before : ℕ} {hold₀ list₀ hold list : List ℕ}
         list_bytes = r.list_is ∙ sym (ap (λ (s : Step). written list₀ 0 (layout_packets s.out)) step);
       }
 
-  pub not_against : record_at area at ≡ Against → ⊥
-  not_against here =
-      let e : some r.rest ≡ none = sym r.to_read ∙ read_against area at here in
+  pub not_against : (refusal : Refusal) → record_at area at ≡ Err refusal → ⊥
+  not_against refusal here =
+      let e : some r.rest ≡ none = sym r.to_read ∙ read_against area at refusal here in
       let z : ◌≡◌ {A = ℕ} 0 1 = cc in
       omega arith
 
@@ -133,27 +133,20 @@ module _ {area : List ℕ} {before : ℕ} {hold₀ list₀ hold list : List ℕ}
 
     -- the record can be joined
     pub ready : before ≤ 8999 → 10907 ≤ length list₀
-        → Ready found.first found.last (take (found.start + found.length - found.start) (drop found.start area)) joined hold list
-    ready low long = rw (part_is area found) (record {
+        → Ready found.first found.last bytes joined hold list
+    ready low long = record {
       hold_long = r.hold_long;
       held_low = r.held_low;
       short = omega (arith, piece_length area at found lie, lie.high);
       fitting = piece_fits;
       room = omega (arith, r.room, r.area_long, list_length low long, piece_length area at found lie, lie.inside, lie.start);
       few = omega (arith, r.few, r.low);
-    })
+    }
 
     module _ (next : Joined) (hold' list' : List ℕ) (low : before ≤ 8999) (long : 10907 ≤ length list₀)
-        (outcome : StepOutcome (on_piece (take joined.held hold) found.first found.last
-        (take (found.start + found.length - found.start) (drop found.start area)))
-        joined hold list next hold' list') where
+        (out : StepOutcome (on_piece (take joined.held hold) found.first found.last bytes) joined hold list next hold' list') where
       abbrev step' : Step
       step' = on_piece (take joined.held hold) found.first found.last bytes
-
-      out : StepOutcome step' joined hold list next hold' list'
-      out =
-          subst (λ l. StepOutcome (on_piece (take joined.held hold) found.first found.last l) joined hold list next hold' list')
-          (part_is area found) outcome
 
       below : length step'.held ≤ 8999
       below =

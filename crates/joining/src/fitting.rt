@@ -21,7 +21,7 @@ pub fn first_fits(area: &[u8], held: &[u8]) -> bool
 
 // Whether a piece can be joined to what is held.
 fn piece_fits(held: &[u8], piece: Piece) -> bool
-    ensures { result ≡ fits_piece held.now piece.first piece.last piece.bytes.now }
+    ensures { result ≡ fits_piece held.now piece.entry.first piece.entry.last piece.entry.bytes.now }
 {
     piece.first || held.is_empty() || held.len() + piece.bytes.len() <= most_joined(piece.last)
 }

@@ -1,4 +1,4 @@
-// One record joined to what is held: a whole packet goes to the list, an unfinished one to the hold (01, "Receiving").
+// One piece, a record's, joined to what is held: a whole packet goes to the list, an unfinished one to the hold (01, "Receiving").
 ghost use Rattle.std.specs.Prelude.{◌≡◌, [], ◌∷◌, ◌++◌, ◌+◌, ◌≤◌, ◌<◌, length, take};
 ghost use Rattle.lent.specs.Written.{written};
 ghost use Rattle.link.specs.Link.{on_piece};
@@ -7,7 +7,8 @@ ghost use Rattle.joining.specs.Growing.{grown, Ready, Growable, StepOutcome};
 
 use packing::Piece;
 
-// What is held after a frame, how many packets it completed, and how many bytes of the list they take.
+// What is held after a frame, how many packets it completed, and how many bytes of the list they take. The hold and the list go beside it and not in it, for
+// they are lent for one call, and a receiver that is copied holds no borrow.
 #[derive(Clone, Copy)]
 pub struct Joined {
     pub held: usize,
@@ -18,7 +19,7 @@ pub struct Joined {
 // Joins one piece: "first" drops a held part; without it, and with nothing held, the piece is skipped.
 pub fn join_piece(piece: Piece, before: Joined, hold: &mut [u8], list: &mut [u8]) -> Joined
     requires { Ready piece.first piece.last piece.bytes.now before hold.old list.old }
-    ensures { StepOutcome (on_piece (take before.held hold.old) piece.first piece.last piece.entry.bytes.now)
+    ensures { StepOutcome (on_piece (take before.held hold.old) piece.entry.first piece.entry.last piece.entry.bytes.now)
         before hold.old list.old result hold.new list.new }
 {
     if piece.first {
@@ -33,7 +34,7 @@ pub fn join_piece(piece: Piece, before: Joined, hold: &mut [u8], list: &mut [u8]
 // Joins a piece to the first `part` bytes of the hold: a whole packet goes to the list, an unfinished one to the hold.
 fn grow(part: usize, piece: Piece, before: Joined, hold: &mut [u8], list: &mut [u8]) -> Joined
     requires { Growable part piece.last piece.bytes.now before hold.old list.old }
-    ensures { StepOutcome (grown (take part hold.old) piece.last piece.bytes.now)
+    ensures { StepOutcome (grown (take part hold.old) piece.entry.last piece.entry.bytes.now)
         before hold.old list.old result hold.new list.new }
 {
     let length = part + piece.bytes.len();

@@ -1,10 +1,8 @@
 -- What reading says where no record stands (`read_end`, `read_against`), and where one does (`some_record`), which lies behind its mark (`lies`).
-use mathlib.Core.Path.{◌≡◌, refl, sym, ap, ◌∙◌}
+use mathlib.Core.Path.{◌≡◌, sym, ap, ◌∙◌}
 use native.Mathlib.Omega.{arith}
-use lib.ListN.{length}
-use Rattle.std.proofs.Common.{rules, Some, None, Ok, Err}
+use Rattle.std.proofs.Common.{rules, Ok, Err}
 use Rattle.basics.specs.Lists.{is_some}
-use Rattle.packing.specs.Records.{record_at}
 use Rattle.packing.proofs.Records.{lies, read_whole, read_end, read_against, some_record}
 use Rattle.packing.proofs.read_through.Goals as goal
 

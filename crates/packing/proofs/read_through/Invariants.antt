@@ -1,7 +1,6 @@
 -- Record by record: the area can be read exactly if it can from here on. The measure falls, since a record lies behind its mark.
 use mathlib.Core.Path.{◌≡◌}
 use Prim.Native.Nat.{◌-◌, ◌≤◌}
-use lib.ListN.{length}
 use Rattle.basics.specs.Lists.{is_some}
 use Rattle.packing.specs.Records.{read_from, read}
 use Rattle.packing.proofs.read_through.Given as goal

@@ -1,5 +1,5 @@
 -- Too few bytes or a mark of 0 ask for the records' end (`at_few`, `at_zero`); any other mark is a record exactly if `is_mark` allows it (`at_other`).
-use mathlib.Core.Path.{◌≡◌, sym, ap, ◌∙◌}
+use mathlib.Core.Path.{sym, ap, ◌∙◌}
 use mathlib.Core.Bool.{Bool, cond}
 use Prim.Native.Nat.{◌+◌, ◌<◌}
 use native.Mathlib.Omega.{arith}
@@ -15,10 +15,10 @@ use Rattle.packing.proofs.record_at.Goals as goal
 pub returns-then-total-lt3 : goal.returns-then-total-lt3
 returns-then-total-lt3 c =
     let few : length c.args.area.now < c.args.at + 3 =
-        elim c.then-total-lt3.branch [
-          then-total-lt3-via-then-total-lt3 w ↦ omega (arith, w.if-total-lt3.true)
-        | then-total-lt3-via-else-total-lt3+then-total-at w ↦ omega (arith, w.if-total-lt3.false, w.if-total-at.true)
-        ] in
+    elim c.then-total-lt3.branch [
+      | then-total-lt3-via-then-total-lt3 w ↦ omega (arith, w.if-total-lt3.true)
+      | then-total-lt3-via-else-total-lt3+then-total-at w ↦ omega (arith, w.if-total-lt3.false, w.if-total-at.true)
+    ] in
     c.end_at.ensures ∙ sym (at_few c.args.area.now c.args.at few)
 
 pub returns-then-mark-eq0 : goal.returns-then-mark-eq0
