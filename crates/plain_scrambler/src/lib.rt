@@ -12,11 +12,9 @@ pub fn scramble(taps: u32, bytes: &mut [u8])
     ensures { bytes.new ≡ scrambled taps bytes.old }
 {
     let mut stages = bits::FIRST_STAGES;
-    let mut i = 0;
-    while i < bytes.len() {
+    for byte in bytes.iter_mut() {
         let key = bits::key_byte(taps, stages);
-        bytes[i] = bytes[i] ^ key.byte;
+        *byte ^= key.byte;
         stages = key.stages;
-        i += 1;
     }
 }

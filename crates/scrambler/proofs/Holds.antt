@@ -1,16 +1,20 @@
 -- Lists whose first numbers are those of a sequence: what the loops of src/levels.rt come to.
 use mathlib.Core.Path.{◌≡◌, refl, sym, ap, ap₂, ◌∙◌, subst}
-use mathlib.Core.List.{List}
-use Prim.Native.Nat.{ℕ, ◌+◌, ◌-◌, ◌*◌, ◌%◌, ◌^◌, ◌≤◌, ◌<◌}
-use native.Mathlib.Nat.{not-suc-le-zero, zero-add, one-mul, lt_of_lt_of_le, mul-le-mul}
+use mathlib.Core.List.{List, ◌++◌}
+use mathlib.Core.Logic.{inl, inr}
+use Prim.Native.Nat.{ℕ, ◌+◌, ◌-◌, ◌*◌, ◌^◌, ◌≤◌, ◌<◌}
+use native.Mathlib.Nat.{not-suc-le-zero, zero-add, one-mul, lt_of_lt_of_le, mul-le-mul, mul-le-mul_left}
 use native.Mathlib.Omega.{arith}
 use lib.Arith.{digits_lt}
-use lib.ListN.{length, get_or, set, take, length-set}
-use lib.Seq.{get_or-set_other, get_or-take}
+use lib.ListN.{length, get_or, set, take, drop, length-drop, get_or-append}
+use lib.Seq.{get_or-set_other, get_or-take, length-take-le}
+use Rattle.std.proofs.lemmas.List.{get_or-append_right}
+use borrow.Rule.Slice.PartMut.{mid_of, post_of, put_mid, same_len_mid}
 use Rattle.basics.proofs.Fill.{stored_more}
 use Rattle.scrambler.specs.Scrambler.{key_byte}
-use Rattle.scrambler.specs.Keys.{key_number, places_from, AllBelow, sum_at, FollowsAt, FollowsByTwo, Holds, Extends, ExtendsByTwo, pair_of, Paired, Moved}
-use Rattle.scrambler.proofs.Places.{places_below, sum_same, follows_at, follows_by_two}
+use Rattle.scrambler.specs.Keys.{key_number, places_from, AllBelow, sum_at, FollowsBy, Sums, Holds, Extends, pair_of, Paired, Moved}
+use Rattle.basics.proofs.Tests.{lt_or_ge}
+use Rattle.scrambler.proofs.Places.{sum_same, follows_at, follows_by_two}
 use Rattle.scrambler.proofs.Follows.{level, level_follows, words_from, words_squared, level_join, key_number_lt}
 
 -- ---- one number more
@@ -24,6 +28,10 @@ holds_more {v} {l} {i} {x} h hi e = record { at = stored_more v l i x h.at hi e 
 pub holds_less : {v : ℕ → ℕ} {l : List ℕ} {m n : ℕ} → m ≤ n → Holds v n l → Holds v m l
 holds_less le h = record { at = λ i hi. h.at i (omega arith) }
 
+-- more numbers behind them
+pub holds_before : {v : ℕ → ℕ} {l : List ℕ} {n : ℕ} (rest : List ℕ) → n ≤ length l → Holds v n l → Holds v n (l ++ rest)
+holds_before {v} {l} rest le h = record { at = λ i hi. get_or-append l rest 0 i (omega arith) ∙ h.at i hi }
+
 pub holds_same : {v w : ℕ → ℕ} {l : List ℕ} {n : ℕ} → ((i : ℕ) → v i ≡ w i) → Holds v n l → Holds w n l
 holds_same e h = record { at = λ i hi. h.at i hi ∙ e i }
 
@@ -36,88 +44,69 @@ sum_is : (places l : List ℕ) (v f : ℕ → ℕ) (n next x : ℕ) → AllBelow
 sum_is places l v f n next x b h below follows e =
     e ∙ sum_same 25 places (λ k. get_or l (f k) 0) (λ k. v (f k)) b (λ k hk. h.at (f k) (below k hk)) ∙ sym follows
 
--- ---- `extend`: i numbers are there
+-- k numbers more
+pub holds_put : {v : ℕ → ℕ} {l : List ℕ} (sums : List ℕ) (at k : ℕ) → Holds v at l → at + k ≤ length l → length sums ≡ k
+    → ((i : ℕ) → i < k → get_or sums i 0 ≡ v (at + i)) → Holds v (at + k) (put_mid at k l sums)
+holds_put {v} {l} sums at k h room long new =
+    let front : length (take at l) ≡ at = length-take-le at l (omega arith) in
+    record {
+      at = λ i hi.
+          elim (lt_or_ge i at) [
+            | inl low ↦ get_or-append (take at l) (sums ++ post_of at k l) 0 i (omega arith) ∙ get_or-take at l i 0 low ∙ h.at i low
+            | inr high ↦
+                let back : at + (i - at) ≡ i = omega arith in
+                get_or-append_right (take at l) (sums ++ post_of at k l) at i 0 front high
+                ∙ get_or-append sums (post_of at k l) 0 (i - at) (omega arith) ∙ new (i - at) (omega arith) ∙ ap v back
+          ];
+    }
 
-pub record Extending (places before : List ℕ) (i : ℕ) (numbers : List ℕ) : Type 0 where
-  pub from : 25 ≤ i
+-- ---- `extend`: i times n numbers are new
+
+pub record Extending (n : ℕ) (places before : List ℕ) (i : ℕ) (numbers : List ℕ) : Type 0 where
   pub long : length numbers ≡ 100
-  pub so_far : Extends places i before numbers
+  pub so_far : (v : ℕ → ℕ) → FollowsBy n places v → Holds v (25 * n) before → Holds v (n * (25 + i)) numbers
 
-pub extending_start : {places numbers : List ℕ} → length numbers ≡ 100 → Extending places numbers 25 numbers
-extending_start long = record { from = omega arith; long = long; so_far = record { more = λ v f h. h } }
+pub extending_start : {n : ℕ} {places numbers : List ℕ} → length numbers ≡ 100 → Extending n places numbers 0 numbers
+extending_start {n} long = record { long = long; so_far = λ v f h. holds_less (omega arith) h }
 
-module _ {places before numbers : List ℕ} {i : ℕ} (s : Extending places before i numbers) where
-  pub extending_turn : {x : ℕ} → AllBelow 25 places → i < 50 → x ≡ sum_at places (λ k. get_or numbers (i - 25 + k) 0)
-      → Extending places before (i + 1) (set numbers i x)
-  extending_turn {x} b h e = record {
-    from = omega (arith, s.from);
-    long = length-set numbers i x ∙ s.long;
-    so_far = record {
-      more = λ v f start.
-          let there = s.so_far.more v f start in
-          let next : i - 25 + 25 ≡ i = omega (arith, s.from) in
-          holds_more there (omega (arith, s.long))
-          (sum_is places numbers v (λ k. i - 25 + k) i (i - 25 + 25) x b there (λ k hk. omega (arith, s.from)) (f (i - 25)) e ∙ ap v next);
-    };
+module _ {n i : ℕ} {places before numbers : List ℕ} (s : Extending n places before i numbers) where
+  pub extending_turn : {sums : List ℕ} (k : ℕ) → k ≡ n → AllBelow 25 places → 50 * n ≤ 100 → i < 25
+      → length sums ≡ length (mid_of (n * (25 + i)) k numbers) → Sums n places numbers (n * i) sums
+      → Extending n places before (i + 1) (put_mid (n * (25 + i)) k numbers sums)
+  extending_turn {sums} k same b room hi len e =
+      let more : n * (i + 1) ≤ n * 25 = mul-le-mul_left n (omega arith) in
+      let inside : n * (25 + i) + k ≤ length numbers = omega (arith, s.long) in
+      let size : length sums ≡ k = len ∙ length-take-le k (drop (n * (25 + i)) numbers) (omega (arith, length-drop (n * (25 + i)) numbers)) in
+      record {
+        long = same_len_mid (n * (25 + i)) k numbers sums len ∙ s.long;
+        so_far = λ v f start.
+            let there = s.so_far v f start in
+            let all = holds_put sums (n * (25 + i)) k there inside size (λ j hj.
+            let at : n * i + j + 25 * n ≡ n * (25 + i) + j = omega arith in
+            sum_is places numbers v (λ p. n * i + j + n * p) (n * (25 + i)) (n * i + j + 25 * n) (get_or sums j 0) b there
+            (λ p hp. let low : n * (p + 1) ≤ n * 25 = mul-le-mul_left n (omega arith) in omega arith)
+            (f (n * i + j)) (e.at j (omega arith)) ∙ ap v at) in
+            holds_less (omega arith) all;
+      }
+
+  pub extending_end : 25 ≤ i → Extends n places before numbers
+  extending_end h = record {
+    more = λ v f start. let enough : n * 25 ≤ n * i = mul-le-mul_left n h in holds_less (omega arith) (s.so_far v f start);
   }
 
-  pub extending_end : 50 ≤ i → Extends places 50 before numbers
-  extending_end h = record { more = λ v f start. holds_less h (s.so_far.more v f start) }
-
--- ---- `extend_by_two`
-
-pub record ExtendingByTwo (places before : List ℕ) (i : ℕ) (numbers : List ℕ) : Type 0 where
-  pub from : 50 ≤ i
-  pub even : i % 2 ≡ 0
-  pub long : length numbers ≡ 100
-  pub so_far : ExtendsByTwo places i before numbers
-
-pub extending_by_two_start : {places numbers : List ℕ} → length numbers ≡ 100 → ExtendingByTwo places numbers 50 numbers
-extending_by_two_start long = record { from = omega arith; even = omega arith; long = long; so_far = record { more = λ v f h. h } }
-
-module _ {places before numbers : List ℕ} {i : ℕ} (s : ExtendingByTwo places before i numbers) where
-  pub extending_by_two_turn : {low high : ℕ} → AllBelow 25 places → i < 100 → low ≡ sum_at places (λ k. get_or numbers (i - 50 + 2 * k) 0)
-      → high ≡ sum_at places (λ k. get_or numbers (i - 50 + 2 * k + 1) 0) → ExtendingByTwo places before (i + 2) (set (set numbers i low) (i + 1) high)
-  extending_by_two_turn {low} {high} b h e1 e2 = record {
-    from = omega (arith, s.from);
-    even = omega (arith, s.even);
-    long = length-set (set numbers i low) (i + 1) high ∙ length-set numbers i low ∙ s.long;
-    so_far = record {
-      more = λ v f start.
-          let there = s.so_far.more v f start in
-          let first : i - 50 + 50 ≡ i = omega (arith, s.from) in
-          let second : i - 50 + 1 + 50 ≡ i + 1 = omega (arith, s.from) in
-          let beside : (k : ℕ) → i - 50 + 1 + 2 * k ≡ i - 50 + 2 * k + 1 = λ k. omega arith in
-          let one : Holds v (i + 1) (set numbers i low) =
-          holds_more there (omega (arith, s.long))
-          (sum_is places numbers v (λ k. i - 50 + 2 * k) i (i - 50 + 50) low b there (λ k hk. omega (arith, s.from)) (f (i - 50)) e1 ∙ ap v first) in
-          let two : Holds v (i + 1 + 1) (set (set numbers i low) (i + 1) high) =
-          holds_more one (omega (arith, s.long, s.even, length-set numbers i low))
-          (sum_is places numbers v (λ k. i - 50 + 2 * k + 1) i (i - 50 + 1 + 50) high b there (λ k hk. omega (arith, s.from, s.even))
-          (f (i - 50 + 1) ∙ sum_same 25 places (λ k. v (i - 50 + 1 + 2 * k)) (λ k. v (i - 50 + 2 * k + 1)) b (λ k hk. ap v (beside k))) e2
-          ∙ ap v second) in
-          holds_less (omega arith) two;
-    };
-  }
-
-  pub extending_by_two_end : 100 ≤ i → ExtendsByTwo places 100 before numbers
-  extending_by_two_end h = record { more = λ v f start. holds_less h (s.so_far.more v f start) }
-
--- ---- `pair` and `move_on`: i numbers at the front are new, and the others are as they were
+-- ---- `pair`: i numbers at the front are new, and the others are as they were
 
 pub record Replacing (v : ℕ → ℕ) (before : List ℕ) (i : ℕ) (numbers : List ℕ) : Type 0 where
-  pub long : length numbers ≡ 100
   pub new : Holds v i numbers
   pub old : (j : ℕ) → i ≤ j → get_or numbers j 0 ≡ get_or before j 0
 
-pub replacing_start : {v : ℕ → ℕ} {numbers : List ℕ} → length numbers ≡ 100 → Replacing v numbers 0 numbers
-replacing_start long = record { long = long; new = holds_none; old = λ j h. refl }
+pub replacing_start : {v : ℕ → ℕ} {numbers : List ℕ} → Replacing v numbers 0 numbers
+replacing_start = record { new = holds_none; old = λ j h. refl }
 
-pub replacing_turn : {v : ℕ → ℕ} {before numbers : List ℕ} {i x : ℕ} → Replacing v before i numbers → i < 100 → x ≡ v i
+pub replacing_turn : {v : ℕ → ℕ} {before numbers : List ℕ} {i x : ℕ} → Replacing v before i numbers → i < length numbers → x ≡ v i
     → Replacing v before (i + 1) (set numbers i x)
 replacing_turn {v} {before} {numbers} {i} {x} s h e = record {
-  long = length-set numbers i x ∙ s.long;
-  new = holds_more s.new (omega (arith, s.long)) e;
+  new = holds_more s.new h e;
   old = λ j hj. get_or-set_other numbers i j x 0 (omega arith) ∙ s.old j (omega arith);
 }
 
@@ -140,27 +129,23 @@ module _ (taps : ℕ) where
   pub level_one : {l : List ℕ} → Holds (key_byte taps) 25 l → Holds (level taps 1) 25 l
   level_one h = holds_same byte_number h
 
-  module _ {places : List ℕ} (places_are : places ≡ places_from 25 0 taps) where
-    pub all_below_lem : AllBelow 25 places
-    all_below_lem = subst (AllBelow 25) (sym places_are) (places_below 25 0 taps)
+  pub level_extends : (m : ℕ) {before after : List ℕ} → Extends 1 (places_from 25 0 taps) before after
+      → Holds (level taps (2 ^ m)) 25 before → Holds (level taps (2 ^ m)) 50 after
+  level_extends m x h =
+      let v = level taps (2 ^ m) in
+      x.more v (follows_at taps v (level_follows taps m)) h
 
-    pub level_extends : (m : ℕ) {before after : List ℕ} → Extends places 50 before after
-        → Holds (level taps (2 ^ m)) 25 before → Holds (level taps (2 ^ m)) 50 after
-    level_extends m x h =
-        let v = level taps (2 ^ m) in
-        x.more v (subst (λ (p : List ℕ). FollowsAt p v) (sym places_are) (follows_at taps v (level_follows taps m))) h
-
-    -- the next 50 words
-    pub words_next : (at : ℕ) {before more after : List ℕ} → ExtendsByTwo places 100 before more → Moved more after
-        → Holds (words_from taps at) 50 before → Holds (words_from taps (at + 400)) 50 after
-    words_next at x m h =
-        let v = words_from taps at in
-        let all : Holds v 100 _ = x.more v (subst (λ (p : List ℕ). FollowsByTwo p v) (sym places_are) (follows_by_two taps v (words_squared taps at))) h in
-        record {
-          at = λ i hi.
-              let e : at + 8 * (50 + i) ≡ at + 400 + 8 * i = omega arith in
-              m.later.at i hi ∙ all.at (50 + i) (omega arith) ∙ ap (key_number taps 8) e;
-        }
+  -- the next 50 words
+  pub words_next : (at : ℕ) {before more after : List ℕ} → Extends 2 (places_from 25 0 taps) before more → Moved more after
+      → Holds (words_from taps at) 50 before → Holds (words_from taps (at + 400)) 50 after
+  words_next at x m h =
+      let v = words_from taps at in
+      let all = x.more v (follows_by_two taps v (words_squared taps at)) h in
+      record {
+        at = λ i hi.
+            let e : at + 8 * (50 + i) ≡ at + 400 + 8 * i = omega arith in
+            m.later.at i hi ∙ all.at (50 + i) (omega arith) ∙ ap (key_number taps 8) e;
+      }
 
   pub level_below : (n : ℕ) {l : List ℕ} → Holds (level taps n) 50 l → (i : ℕ) → i < 50 → get_or l i 0 < 256 ^ n
   level_below n h i hi = subst (λ (x : ℕ). x < 256 ^ n) (sym (h.at i hi)) (key_number_lt taps n (n * i))

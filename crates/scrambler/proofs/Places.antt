@@ -2,16 +2,18 @@
 use mathlib.Core.Path.{◌≡◌, refl, sym, ap, ap₂, ◌∙◌, subst}
 use mathlib.Core.List.{List, [], ◌∷◌, ◌++◌, append_assoc, append-nil}
 use Prim.Native.Nat.{ℕ, zero, suc, ◌+◌, ◌-◌, ◌*◌, ◌/◌, ◌%◌, ◌≤◌, ◌<◌}
-use native.Mathlib.Nat.{not-suc-le-zero, le_of_suc-le-suc, mod-lt, add-zero, zero-add, add-suc, suc-add, zero-mul, one-mul}
+use native.Mathlib.Nat.{not-suc-le-zero, le_of_suc-le-suc, mod-lt, add-zero, zero-add, add-suc, suc-add, zero-mul, one-mul, mul-le-mul_left}
 use native.Mathlib.Numerals.{add-one}
 use native.Mathlib.Omega.{arith}
+use borrow.Author.Count.{below_more}
+use Rattle.std.proofs.lemmas.List.{get_or-replicate}
 use lib.Dec.{lit<}
 use lib.Bits.{bit_xor, xor_zero_r}
-use lib.ListN.{length, get_or, take, drop, set, length-set, drop_of_length-le}
-use lib.Seq.{drop-cons, take-suc-set, take-set-le}
+use lib.ListN.{length, get_or, take, drop, set, replicate, length-set, length-replicate, drop_of_length-le}
+use lib.Seq.{drop-cons, take-suc-set, take-set-le, get_or-set_same, get_or-set_other}
 use Rattle.basics.proofs.Xor.{bit_cases, xor_assoc}
 use Rattle.basics.specs.Numbers.{digit}
-use Rattle.scrambler.specs.Keys.{with_place, places_from, AllBelow, sum_at, FollowsAt, FollowsByTwo}
+use Rattle.scrambler.specs.Keys.{with_place, places_from, AllBelow, sum_at, FollowsBy, Sums}
 use Rattle.scrambler.proofs.Stages.{digit_zero, digit_suc}
 use Rattle.scrambler.proofs.Square.{total, total_same, Follows}
 
@@ -35,6 +37,13 @@ places_below (suc n) i taps =
     let below : AllBelow (i + suc n) rest =
     subst (λ (m : ℕ). AllBelow m rest) (suc-add i n ∙ sym (add-suc i n)) (places_below n (suc i) (taps / 2)) in
     bit_cases (λ u. AllBelow (i + suc n) (with_place u i rest)) below (below_with (omega arith) below) (taps % 2) (mod-lt taps (lit< tt))
+
+pub all_below_lem : (taps : ℕ) {places : List ℕ} → places ≡ places_from 25 0 taps → AllBelow 25 places
+all_below_lem taps places_are = subst (AllBelow 25) (sym places_are) (places_below 25 0 taps)
+
+-- n numbers from the one at a place on stand before the end
+pub place_room : (n from p : ℕ) → p < 25 → from + 25 * n ≤ 100 → from + n * p + n ≤ 100
+place_room n from p h room = let last : n * (p + 1) ≤ n * 25 = mul-le-mul_left n (omega arith) in omega arith
 
 -- ---- a loop that writes them
 
@@ -99,6 +108,44 @@ module _ {places : List ℕ} {f : ℕ → ℕ} {sum m : ℕ} (s : Summed places 
   unfolding sum_at
   summed_end h = sym (ap (λ (q : List ℕ). bit_xor sum (sum_at q f)) (drop_of_length-le places h) ∙ xor_zero_r sum) ∙ s.so_far
 
+-- ---- N such sums: those before the i-th have m + 1 places, the others m
+
+pub record Summing (n m i : ℕ) (places numbers : List ℕ) (from : ℕ) (sums : List ℕ) : Type 0 where
+  pub long : length sums ≡ n
+  pub done : (k : ℕ) → k < i → k < n → Summed places (λ p. get_or numbers (from + k + n * p) 0) (get_or sums k 0) (m + 1)
+  pub left : (k : ℕ) → i ≤ k → k < n → Summed places (λ p. get_or numbers (from + k + n * p) 0) (get_or sums k 0) m
+
+pub summing_start : {n from : ℕ} {places numbers : List ℕ} → Summing n 0 0 places numbers from (replicate n 0)
+summing_start {n} {from} {places} {numbers} = record {
+  long = length-replicate n 0;
+  done = λ k h hk. absurd (not-suc-le-zero h);
+  left = λ k h hk. subst (λ (x : ℕ). Summed places (λ p. get_or numbers (from + k + n * p) 0) x 0) (sym (get_or-replicate n k 0 0 hk)) summed_start;
+}
+
+module _ {n m i from : ℕ} {places numbers sums : List ℕ} (s : Summing n m i places numbers from sums) where
+  pub summing_turn : i < n → m < length places
+      → Summing n m (i + 1) places numbers from (set sums i (bit_xor (get_or sums i 0) (get_or numbers (from + n * get_or places m 0 + i) 0)))
+  summing_turn hi hm =
+      let x = bit_xor (get_or sums i 0) (get_or numbers (from + n * get_or places m 0 + i) 0) in
+      let P : ℕ → ℕ → ℕ → Type 0 = λ k y j. Summed places (λ p. get_or numbers (from + k + n * p) 0) y j in
+      let there : from + i + n * get_or places m 0 ≡ from + n * get_or places m 0 + i = omega arith in
+      let new : P i (get_or (set sums i x) i 0) (m + 1) =
+      subst (λ (y : ℕ). P i y (m + 1))
+      (ap (λ (j : ℕ). bit_xor (get_or sums i 0) (get_or numbers j 0)) there ∙ sym (get_or-set_same sums i x 0 (omega (arith, s.long))))
+      (summed_turn (s.left i (omega arith) hi) hm) in
+      record {
+        long = length-set sums i x ∙ s.long;
+        done = λ k h hk. below_more (λ k. k < n → P k (get_or (set sums i x) k 0) (m + 1)) i
+            (λ k h hk. subst (λ (y : ℕ). P k y (m + 1)) (sym (get_or-set_other sums i k x 0 (omega arith))) (s.done k h hk)) (λ hk. new) k h hk;
+        left = λ k h hk. subst (λ (y : ℕ). P k y m) (sym (get_or-set_other sums i k x 0 (omega arith))) (s.left k (omega arith) hk);
+      }
+
+  pub summing_next : n ≤ i → Summing n (m + 1) 0 places numbers from sums
+  summing_next h = record { long = s.long; done = λ k h hk. absurd (not-suc-le-zero h); left = λ k hk lt. s.done k (omega arith) lt }
+
+  pub summing_end : i ≤ 0 → length places ≤ m → Sums n places numbers from sums
+  summing_end none h = record { at = λ k hk. summed_end (s.left k (omega arith) hk) h }
+
 -- ---- a sum at the places is that of the recurrence
 
 pub sum_same : (n : ℕ) (l : List ℕ) (f g : ℕ → ℕ) → AllBelow n l → ((i : ℕ) → i < n → f i ≡ g i) → sum_at l f ≡ sum_at l g
@@ -127,10 +174,11 @@ places_sum taps f =
     sym (places_total 25 0 taps f
     ∙ total_same 25 (λ m. digit m taps * f (0 + m)) (λ i. digit i taps * f i) (λ m. ap (λ (j : ℕ). digit m taps * f j) (zero-add m)))
 
-pub follows_at : (taps : ℕ) (v : ℕ → ℕ) → Follows 25 (λ i. digit i taps) v → FollowsAt (places_from 25 0 taps) v
-follows_at taps v f k = f k ∙ places_sum taps (λ i. v (k + i))
+pub follows_at : (taps : ℕ) (v : ℕ → ℕ) → Follows 25 (λ i. digit i taps) v → FollowsBy 1 (places_from 25 0 taps) v
+follows_at taps v f k = f k ∙ total_same 25 (λ i. digit i taps * v (k + i)) (λ i. digit i taps * v (k + 1 * i))
+    (λ i. ap (λ (j : ℕ). digit i taps * v (k + j)) (sym (one-mul i))) ∙ places_sum taps (λ i. v (k + 1 * i))
 
-pub follows_by_two : (taps : ℕ) (v : ℕ → ℕ) → ((k : ℕ) → v (k + 25 + 25) ≡ total 25 (λ i. digit i taps * v (k + i + i))) → FollowsByTwo (places_from 25 0 taps) v
+pub follows_by_two : (taps : ℕ) (v : ℕ → ℕ) → ((k : ℕ) → v (k + 25 + 25) ≡ total 25 (λ i. digit i taps * v (k + i + i))) → FollowsBy 2 (places_from 25 0 taps) v
 follows_by_two taps v f k =
     let e : k + 50 ≡ k + 25 + 25 = omega arith in
     ap v e ∙ f k

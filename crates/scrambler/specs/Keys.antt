@@ -39,25 +39,21 @@ unfoldable pub sum_at : List ℕ → (ℕ → ℕ) → ℕ
 sum_at [] f = 0
 sum_at (p ∷ places) f = bit_xor (f p) (sum_at places f)
 
--- each number is the sum of those at the places among the 25 before it
-abbrev pub FollowsAt : List ℕ → (ℕ → ℕ) → Type 0
-FollowsAt places v = (k : ℕ) → v (k + 25) ≡ sum_at places (λ i. v (k + i))
+-- each number is the sum of those at the places among the 25 before it, where only every n-th number counts
+abbrev pub FollowsBy : ℕ → List ℕ → (ℕ → ℕ) → Type 0
+FollowsBy n places v = (k : ℕ) → v (k + 25 * n) ≡ sum_at places (λ i. v (k + n * i))
 
--- the same of every second number
-abbrev pub FollowsByTwo : List ℕ → (ℕ → ℕ) → Type 0
-FollowsByTwo places v = (k : ℕ) → v (k + 50) ≡ sum_at places (λ i. v (k + 2 * i))
+-- the sums at the places of every n-th number of a list, from an index on and from the n - 1 that follow it
+pub record Sums (n : ℕ) (places numbers : List ℕ) (from : ℕ) (sums : List ℕ) : Type 0 where
+  pub at : (i : ℕ) → i < n → get_or sums i 0 ≡ sum_at places (λ p. get_or numbers (from + i + n * p) 0)
 
 -- the first n numbers of a list are v 0, v 1, ..
 pub record Holds (v : ℕ → ℕ) (n : ℕ) (l : List ℕ) : Type 0 where
   pub at : (i : ℕ) → i < n → get_or l i 0 ≡ v i
 
--- whatever follows the places and was there for 25 numbers is there for n
-pub record Extends (places : List ℕ) (n : ℕ) (before after : List ℕ) : Type 0 where
-  pub more : (v : ℕ → ℕ) → FollowsAt places v → Holds v 25 before → Holds v n after
-
--- whatever follows them two by two and was there for 50 numbers is there for n
-pub record ExtendsByTwo (places : List ℕ) (n : ℕ) (before after : List ℕ) : Type 0 where
-  pub more : (v : ℕ → ℕ) → FollowsByTwo places v → Holds v 50 before → Holds v n after
+-- whatever follows the places, n by n, and was there for 25 n numbers is there for 50 n
+pub record Extends (n : ℕ) (places before after : List ℕ) : Type 0 where
+  pub more : (v : ℕ → ℕ) → FollowsBy n places v → Holds v (25 * n) before → Holds v (50 * n) after
 
 -- two neighbours in one, the first the lower
 abbrev pub pair_of : ℕ → List ℕ → ℕ → ℕ

@@ -14,7 +14,7 @@ fn step(taps: u32, stages: u32) -> u32
     stages / 2 + (u32::count_ones(stages & taps) % 2) * 0x1000000
 }
 
-// Eight bits of the scrambler, and the stages after them.
+// Eight bits of the scrambler, and the stages after them: no pair, whose parts a caller would tell by their place.
 #[derive(Clone, Copy)]
 pub struct Key {
     pub byte: u8,
@@ -28,11 +28,9 @@ pub fn key_byte(taps: u32, stages: u32) -> Key
 {
     let mut byte: u8 = 0;
     let mut later = stages;
-    let mut remaining: usize = 8;
-    while 0 < remaining {
+    for _ in 0..u8::BITS {
         byte = byte * 2 + (later % 2) as u8;
         later = step(taps, later);
-        remaining -= 1;
     }
     Key {
         byte,

@@ -10,6 +10,8 @@ ghost use Rattle.std.specs.Prelude.{◌≡◌, ◌≤◌, length};
 ghost use Rattle.scrambler.specs.Scrambler.{taps_allowed, scrambled};
 ghost use Rattle.scrambler.specs.Keys.{Added};
 
+use sums::Recurrence;
+
 // Whether a number can be the taps: 25 of them, tap 0 set.
 pub fn are_taps(taps: u32) -> bool
     ensures { result ≡ taps_allowed taps }
@@ -21,31 +23,27 @@ pub fn are_taps(taps: u32) -> bool
 pub fn scramble(taps: u32, bytes: &mut [u8])
     ensures { bytes.new ≡ scrambled taps bytes.old }
 {
-    let mut buffer = [0usize; 25];
-    let count = sums::write_places(taps, &mut buffer);
-    let places = &buffer[..count];
-    let mut words = levels::first_words(taps, places);
+    let recurrence = Recurrence::of(taps);
+    let mut words = levels::first_words(&recurrence);
     // A stretch of 400 bytes takes 50 words; the next 50 are made only where more bytes follow.
-    let mut at = 0;
-    while 400 < bytes.len() - at {
-        add_words(&words[..50], &mut bytes[at..at + 400]);
-        levels::extend_by_two(places, &mut words);
-        levels::move_on(&mut words);
-        at += 400;
+    for at in (0..bytes.len()).step_by(400) {
+        if 0 < at {
+            levels::extend::<2>(&recurrence, &mut words);
+            levels::move_on(&mut words);
+        }
+        let end = usize::min(at + 400, bytes.len());
+        add_words(&words, &mut bytes[at..end]);
     }
-    add_words(&words[..50], &mut bytes[at..]);
 }
 
-// Adds 50 words of the key to at most 400 bytes.
-fn add_words(words: &[u64], bytes: &mut [u8])
-    requires { (length words.now ≡ 50) × (length bytes.old ≤ 400) }
+// Adds the first 50 of these words of the key to at most 400 bytes.
+fn add_words(words: &[u64; 100], bytes: &mut [u8])
+    requires { length bytes.old ≤ 400 }
     ensures { Added words.now bytes.old bytes.new }
 {
     let mut key = [0u8; 400];
-    lent::numbers::write_numbers(&mut key, words);
-    let mut i = 0;
-    while i < bytes.len() {
-        bytes[i] = bytes[i] ^ key[i];
-        i += 1;
+    lent::numbers::write_numbers(&mut key, &words[..50]);
+    for (i, byte) in bytes.iter_mut().enumerate() {
+        *byte ^= key[i];
     }
 }

@@ -1,59 +1,49 @@
-// The places of the taps that are set, and sums of numbers that stand at them.
-ghost use Rattle.std.specs.Prelude.{◌≡◌, ◌+◌, ◌*◌, ◌≤◌, length, take, get_or};
-ghost use Rattle.scrambler.specs.Keys.{places_from, AllBelow, sum_at};
+// The recurrence of a setting: the places of its taps, and sums of numbers that stand at them.
+ghost use Rattle.std.specs.Prelude.{◌≡◌, ◌*◌, ◌≤◌, ◌+◌, take};
+ghost use Rattle.scrambler.specs.Keys.{places_from, Sums};
 
-// Writes the places of the taps that are set to the front of places, and answers how many they are.
-pub fn write_places(taps: u32, places: &mut [usize]) -> usize
-    requires { length places.old ≡ 25 }
-    ensures { (result ≤ 25) × (take result places.new ≡ places_from 25 0 taps) }
-{
-    let mut count: usize = 0;
-    let mut rest = taps;
-    let mut i: usize = 0;
-    while i < 25 {
-        places[count] = i; // kept if the tap is set: no branch
-        count += (rest % 2) as usize;
-        rest = rest / 2;
-        i += 1;
-    }
-    count
+// The taps, and in front of `places` the places of those that are set: no heap is allowed, so the count stands beside an array.
+#[derive(Drop)]
+pub struct Recurrence {
+    pub taps: u32,
+    places: [usize; 25],
+    count: usize,
+    ghost few: { count ≤ 25 },
+    ghost listed: { take count places ≡ places_from 25 0 taps },
 }
 
-// The sum of the numbers at the places, counted from an index on.
-pub fn sum_at(places: &[usize], numbers: &[u64], from: usize) -> u64
-    requires { AllBelow 25 places.now × (from + 25 ≤ length numbers.now) }
-    ensures { result ≡ sum_at places.now (λ i. get_or numbers.now (from + i) 0) }
-{
-    let mut sum: u64 = 0;
-    let mut m = 0;
-    while m < places.len() {
-        sum = sum ^ numbers[from + places[m]];
-        m += 1;
+impl Recurrence {
+    // The recurrence of these taps.
+    pub fn of(taps: u32) -> Recurrence
+        ensures { result.taps ≡ taps }
+    {
+        let mut places = [0usize; 25];
+        let mut count: usize = 0;
+        let mut rest = taps;
+        for place in 0..25 {
+            places[count] = place; // kept if the tap is set: no branch
+            count += (rest % 2) as usize;
+            rest = rest / 2;
+        }
+        Recurrence {
+            taps,
+            places,
+            count,
+        }
     }
-    sum
-}
 
-// Two sums, of numbers that are neighbours.
-#[derive(Clone, Copy)]
-pub struct TwoSums {
-    pub low: u64,
-    pub high: u64,
-}
-
-// The sums of every second number at the places, from an index and from the next one on.
-pub fn two_sums_at(places: &[usize], numbers: &[u64], from: usize) -> TwoSums
-    requires { AllBelow 25 places.now × (from + 50 ≤ length numbers.now) }
-    ensures { (result.low ≡ sum_at places.now (λ i. get_or numbers.now (from + 2 * i) 0))
-        × (result.high ≡ sum_at places.now (λ i. get_or numbers.now (from + 2 * i + 1) 0)) }
-{
-    let mut low: u64 = 0;
-    let mut high: u64 = 0;
-    let mut m = 0;
-    while m < places.len() {
-        let at = from + 2 * places[m];
-        low = low ^ numbers[at];
-        high = high ^ numbers[at + 1];
-        m += 1;
+    // The sums of every N-th number at the places: those from an index on, and from each of the N - 1 that follow it.
+    pub fn sums_at<const N: usize>(&self, numbers: &[u64; 100], from: usize) -> [u64; N]
+        requires { from + 25 * N ≤ 100 }
+        ensures { Sums N (places_from 25 0 self.now.taps) numbers.now from result }
+    {
+        let mut sums = [0u64; N];
+        for &place in &self.places[..self.count] {
+            let at = from + N * place;
+            for i in 0..N {
+                sums[i] ^= numbers[at + i];
+            }
+        }
+        sums
     }
-    TwoSums { low, high }
 }

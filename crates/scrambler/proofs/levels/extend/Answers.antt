@@ -1,20 +1,24 @@
--- Number by number: the invariant and its turns are those of `Extending` in Holds.antt.
+-- N numbers a turn: the invariant and its turns are those of `Extending` in Holds.antt.
+use mathlib.Core.Path.{subst, sym}
+use mathlib.Core.List.{List}
+use Prim.Native.Nat.{ℕ, ◌*◌}
 use native.Mathlib.Omega.{arith}
+use Rattle.scrambler.specs.Keys.{places_from, Sums}
+use Rattle.scrambler.proofs.Places.{places_below}
 use Rattle.scrambler.proofs.Holds.{extending_start, extending_turn, extending_end}
-use borrow.Author.Rules.{rules}
 use Rattle.scrambler.proofs.levels.extend.Goals as goal
 
 pub loop-i-init : goal.loop-i-init
-loop-i-init c = (search rules, extending_start c.requires.1)
-
-pub sum_at-requires : goal.sum_at-requires
-sum_at-requires c =
-    let loop = c.loop-i in
-    (c.requires.0, omega (arith, loop.invariant.1.from, loop.invariant.1.long))
+loop-i-init g c = extending_start c.told-numbers
 
 pub loop-i-preserved : goal.loop-i-preserved
-loop-i-preserved c =
-    (search rules, extending_turn c.loop-i.invariant.1 c.requires.0 c.loop-i-test.true c.sum_at.ensures)
+loop-i-preserved g c =
+    let loop = c.loop-i in
+    let taps = c.args.recurrence.now.taps in
+    let n = g.row.N in
+    let copied = c.copy_from_slice in
+    extending_turn loop.invariant _ (omega arith) (places_below 25 0 taps) c.requires c.loop-i-test.true copied.ensures.len
+    (subst (λ (sums : List ℕ). Sums n (places_from 25 0 taps) loop.numbers (n * loop.i) sums) (sym copied.ensures.after) c.sums_at-sums.ensures)
 
 pub returns : goal.returns
-returns c = extending_end c.loop-i.invariant.1 c.loop-i-test.false
+returns g c = extending_end c.loop-i.invariant c.loop-i-test.false

@@ -1,11 +1,7 @@
 -- Pair by pair: the invariant and its turns are those of `Replacing` in Holds.antt.
-use Prim.Native.Nat.{◌-◌, ◌≤◌}
 use Rattle.scrambler.specs.Keys.{pair_of}
 use Rattle.scrambler.proofs.Holds.{Replacing}
 use Rattle.scrambler.proofs.levels.pair.Given as goal
 
 abbrev pub invariant-loop-i : goal.invariant-loop-i
-invariant-loop-i l = (l.i ≤ 25) × Replacing (pair_of l.unit l.initial.numbers) l.initial.numbers l.i l.numbers
-
-abbrev pub decreases-loop-i : goal.decreases-loop-i
-decreases-loop-i l = 25 - l.i
+invariant-loop-i l = Replacing (pair_of l.unit l.initial.numbers) l.initial.numbers l.i l.numbers
