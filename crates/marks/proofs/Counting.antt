@@ -3,13 +3,12 @@ use Rattle.std.proofs.Common.{◌≡◌, ℕ, zero, suc, ◌+◌, ◌-◌, ◌*�
 use mathlib.Core.Option.{Option, none, some}
 use Rattle.basics.proofs.Tests.{lt_or_ge}
 use Rattle.link.specs.Link.{Packet, Queue}
-use Rattle.link.specs.Parsing.{mark_at, with_front, packets_in, parse}
+use Rattle.link.specs.Parsing.{mark_at, with_front, packets_in, parse, is_whole}
 use Rattle.link.proofs.Store.{mark_from, is_length_from, Sized, sized, packets_at, packets_end}
 use Rattle.link.proofs.RoundTrip.{Parsed, begun_front, plain_front, parsed}
-use Rattle.ring.specs.Ring.{round_from}
-use Rattle.marks.specs.Queue.{used_in, is_ring_whole, waiting_in, parts_of, packet_count, bytes_in, byte_count}
+use Rattle.marks.specs.Queue.{used_in, is_ring_whole, queue_in, waiting_in, parts_of, packet_count, bytes_in, byte_count}
 use Rattle.marks.proofs.Parsed.{whole_parsed}
-use Rattle.marks.proofs.Used.{used_length, used_mark, ring_passed}
+use Rattle.marks.proofs.Used.{used_length, ring_passed}
 
 -- n marks lead from a place to the end of the bytes, each with its packet
 abbrev pub Leads : List ℕ → ℕ → ℕ → Type 0
@@ -116,40 +115,36 @@ module _ {bytes : List ℕ} {total at packets : ℕ} where
       go zero adds leads = omega arith
       go (suc left) adds leads = absurd (omega (arith, leads.0))
 
--- ---- a ring that is whole
+-- ---- bytes that stand for waiting packets
 
-module _ (queue : List ℕ) (start used : ℕ) (size : length queue ≡ 32768) (whole : is_ring_whole queue start used ≡ true) where
-  abbrev bytes : List ℕ
-  bytes = used_in queue start used
-
+module _ (bytes : List ℕ) (whole : is_whole bytes ≡ true) where
   abbrev waiting : Queue
-  waiting = waiting_in queue start used
+  waiting = queue_in bytes
 
-  long : length bytes ≡ used
-  long = used_length queue start used (omega (arith, (ring_passed queue start used whole).most))
-
-  waits : Counted bytes 0 (parts_of waiting)
-  waits = queue_counted bytes waiting (whole_parsed bytes (ring_passed queue start used whole).whole)
-
-  -- the used bytes are two for each packet's mark, and what waits of the packets
-  pub used_counted : used ≡ 2 * packet_count waiting + byte_count waiting
-  used_counted = omega (arith, long, waits.fill)
+  pub waits : Counted bytes 0 (parts_of waiting)
+  waits = queue_counted bytes waiting (whole_parsed bytes whole)
 
   pub count_begins : Left bytes (packet_count waiting) 0 0
   count_begins = record { left = packet_count waiting; adds = omega arith; leads = waits.leads }
 
   module _ {at packets : ℕ} (walk : Left bytes (packet_count waiting) at packets) where
-    pub count_ends : used ≤ at → packets ≡ packet_count waiting
-    count_ends l = all_counted walk (omega (arith, long))
+    pub count_ends : length bytes ≤ at → packets ≡ packet_count waiting
+    count_ends l = all_counted walk l
 
-    module _ (l : at < used) where
+    module _ (l : at < length bytes) where
       -- there is a mark, and room for another packet in the count
-      pub mark_there : (at + 2 ≤ used) × (packets ≤ used)
-      mark_there = (omega (arith, long, (counts_on walk (omega (arith, long))).0), omega (arith, used_counted, walk.adds))
+      pub mark_there : (at + 2 ≤ length bytes) × (packets ≤ length bytes)
+      mark_there = (omega (arith, (counts_on walk l).0), omega (arith, waits.fill, walk.adds))
 
-      pub count_goes_on : (mark : ℕ) → mark ≡ mark_at (drop at (round_from start queue))
-          → (at + 2 + mark % 32768 ≤ used) × Left bytes (packet_count waiting) (at + 2 + mark % 32768) (packets + 1)
+      pub count_goes_on : (mark : ℕ) → mark ≡ mark_from bytes at
+          → Left bytes (packet_count waiting) (at + (2 + mark % 32768)) (packets + 1)
       count_goes_on mark e =
-          let here : mark ≡ mark_from bytes at = e ∙ used_mark queue start used (omega (arith, (ring_passed queue start used whole).most)) at mark_there.0 in
-          let on = counts_on walk (omega (arith, long)) in
-          rw here (omega (arith, long, on.0), on.1)
+          let place : at + (2 + mark_from bytes at % 32768) ≡ at + 2 + mark_from bytes at % 32768 = omega arith in
+          rw (e, place) (counts_on walk l).1
+
+-- in a ring that is whole the used bytes are two for each packet's mark, and what waits of the packets
+pub used_counted : (queue : List ℕ) (start used : ℕ) → length queue ≡ 32768 → is_ring_whole queue start used ≡ true
+    → used ≡ 2 * packet_count (waiting_in queue start used) + byte_count (waiting_in queue start used)
+used_counted queue start used size whole =
+    let passed = ring_passed queue start used whole in
+    omega (arith, used_length queue start used (omega (arith, passed.most)), (waits (used_in queue start used) passed.whole).fill)

@@ -1,46 +1,13 @@
 -- The walk of the marks as the code goes it, round the ring: the laws of Walk.antt for the used bytes.
-use Rattle.std.proofs.Common.{◌≡◌, ℕ, ◌+◌, ◌-◌, ◌<◌, ◌≤◌, Bool, true, false, ◌&&◌, eqb, leb, List, ◌++◌, length, take, drop, sym, ap, ◌∙◌, ap₂, ⊎_elim, arith, length-drop, length-take-le, le-ltb, lt-ltb}
+use Rattle.std.proofs.Common.{◌≡◌, ℕ, ◌+◌, ◌-◌, ◌<◌, ◌≤◌, eqb, List, ◌++◌, length, take, drop, sym, ap, ◌∙◌, ap₂, ⊎_elim, arith, length-drop, length-take-le, le-ltb, lt-ltb}
 use Rattle.basics.proofs.Tests.{lt_or_ge}
-use Rattle.link.specs.Parsing.{mark_at, is_whole}
-use Rattle.link.proofs.Store.{mark_from, is_length_from, whole_from}
+use Rattle.link.specs.Parsing.{mark_at}
+use Rattle.link.proofs.Store.{whole_from}
 use Rattle.ring.specs.Ring.{round_from}
 use Rattle.marks.specs.Queue.{used_in}
 use Rattle.marks.specs.Walk.{over_end, leads_to_end, LeadsOn}
 use Rattle.marks.proofs.Walk as walk
 use Rattle.marks.proofs.Used.{used_length, used_mark, used_near, used_far}
-
--- what `is_length` tests
-abbrev pub length_test : ℕ → ℕ → ℕ → ℕ → Bool
-length_test total at n most = leb 1 n && leb n most && leb (at + 2 + n) total
-
-module _ (queue : List ℕ) (start used : ℕ) (u : used ≤ length queue) where
-  abbrev bytes : List ℕ
-  bytes = used_in queue start used
-
-  long : length bytes ≡ used
-  long = used_length queue start used u
-
-  tested : (at n most : ℕ) {test given : Bool} → test ≡ length_test used at n most → test ≡ given → is_length_from most n bytes at ≡ given
-  tested at n most t g = ap (λ (total : ℕ). length_test total at n most) long ∙ sym t ∙ g
-
-  -- ---- the front mark
-
-  pub few : used < 2 → eqb used 0 ≡ is_whole bytes
-  few l = ap (λ (n : ℕ). eqb n 0) (sym long) ∙ walk.whole_short bytes (omega (arith, long))
-
-  module _ {mark : ℕ} (r : 2 ≤ used) (e : mark ≡ mark_at (drop 0 (round_from start queue))) where
-    is_mark_lem : mark ≡ mark_from bytes 0
-    is_mark_lem = e ∙ used_mark queue start used u 0 r
-
-    pub not_begun : mark < 32768 → whole_from bytes 0 ≡ is_whole bytes
-    not_begun l = sym (walk.not_begun bytes mark is_mark_lem l)
-
-    module _ {test : Bool} (g : 32768 ≤ mark) (t : test ≡ length_test used 0 (mark - 32768) 8999) where
-      pub begun_bad : test ≡ false → false ≡ is_whole bytes
-      begun_bad f = sym (walk.begun_bad bytes mark is_mark_lem g (tested 0 (mark - 32768) 8999 t f))
-
-      pub begun_good : test ≡ true → whole_from bytes (2 + (mark - 32768)) ≡ is_whole bytes
-      begun_good f = sym (walk.begun_good bytes mark is_mark_lem g (tested 0 (mark - 32768) 8999 t f))
 
 -- ---- stretch by stretch, from an index on
 

@@ -12,6 +12,10 @@ module _ (queue : List ℕ) (start used : ℕ) (u : used ≤ length queue) where
   pub used_length : length (used_in queue start used) ≡ used
   used_length = length-take-le used (round_from start queue) (rw (round_length start queue) u)
 
+  -- as they are seen
+  pub seen_length : (bytes : List ℕ) → used_in queue start used ≡ bytes → used ≡ length bytes
+  seen_length bytes e = sym used_length ∙ ap length e
+
   -- a mark within them
   pub used_mark : (at : ℕ) → at + 2 ≤ used
       → mark_at (drop at (round_from start queue)) ≡ mark_from (used_in queue start used) at

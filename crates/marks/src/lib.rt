@@ -4,23 +4,24 @@
 
 pub mod records;
 
-ghost use Rattle.std.specs.Prelude.{◌≡◌, ◌+◌, ◌*◌, ◌<◌, ◌≤◌, true, ◌&&◌, [], length, drop, nat_le, slice_index};
+ghost use Rattle.std.specs.Prelude.{◌≡◌, ◌+◌, ◌*◌, ◌<◌, ◌≤◌, true, ◌&&◌, [], length, drop, nat_le, slice_index, ℕ, List};
 ghost use Rattle.basics.specs.Sizes.{queue_size};
 ghost use Rattle.link.specs.Store.{marked};
 ghost use Rattle.basics.specs.Lists.{is_some};
 ghost use Rattle.link.specs.Parsing.{mark_at, packets_in, is_whole};
 ghost use Rattle.ring.specs.Ring.{round_from};
-ghost use Rattle.marks.specs.Queue.{used_in, is_ring_whole, waiting_in, packet_count};
+ghost use Rattle.marks.specs.Queue.{used_in, is_ring_whole, queue_in, waiting_in, packet_count};
 ghost use Rattle.marks.specs.Walk.{behind_packet, over_end, LeadsOn};
 
 use basics::sizes;
+use std::marker::Model;
 
 // The two bytes of a mark, high byte first.
 pub fn bytes_of(mark: usize) -> [u8; 2]
     requires { mark < 65536 }
     ensures { result ≡ marked mark [] }
 {
-    [(mark / 256) as u8, (mark % 256) as u8]
+    (mark as u16).to_be_bytes()
 }
 
 // The mark at an index.
@@ -28,7 +29,7 @@ pub fn mark_at(bytes: &[u8], at: usize) -> usize
     requires { at + 2 ≤ length bytes.now }
     ensures { result ≡ slice_index bytes.now at * 256 + slice_index bytes.now (at + 1) }
 {
-    number_of(bytes[at], bytes[at + 1])
+    usize::from(u16::from_be_bytes([bytes[at], bytes[at + 1]]))
 }
 
 // The mark that stands in a ring, `at` bytes behind its start. The end of the buffer may part its two bytes.
@@ -43,14 +44,7 @@ pub fn mark_round(queue: &[u8], start: usize, at: usize) -> usize
     if near <= at {
         return mark_at(queue, at - near);
     }
-    number_of(queue[start + at], queue[0])
-}
-
-// The number of two bytes, high byte first.
-fn number_of(high: u8, low: u8) -> usize
-    ensures { result ≡ high * 256 + low }
-{
-    (high as usize) * 256 + low as usize
+    usize::from(u16::from_be_bytes([queue[start + at], queue[0]]))
 }
 
 // Whether a length is 1 to `most`, and as many of `total` bytes stand behind the mark at an index.
@@ -58,13 +52,7 @@ pub fn is_length(total: usize, at: usize, n: usize, most: usize) -> bool
     requires { at + 2 ≤ total }
     ensures { result ≡ (nat_le 1 n && nat_le n most && nat_le (at + 2 + n) total) }
 {
-    if n < 1 {
-        return false;
-    }
-    if most < n {
-        return false;
-    }
-    n <= total - at - 2
+    1 <= n && n <= most && n <= total - at - 2
 }
 
 // Where the walk goes on from a mark that says n: behind its packet, or nowhere, which is behind every ring, where n is no length. One test judges 1 to 9,000,
@@ -73,7 +61,7 @@ fn behind_packet(at: usize, n: usize, nowhere: usize) -> usize
     requires { at < queue_size }
     ensures { result ≡ behind_packet at n nowhere }
 {
-    let less = std::num::wrapping_sub_usize(n, 1);
+    let less = n.wrapping_sub(1);
     if sizes::MOST_PACKET <= less {
         return nowhere;
     }
@@ -81,7 +69,8 @@ fn behind_packet(at: usize, n: usize, nowhere: usize) -> usize
 }
 
 // Goes from mark to mark of a stretch while both bytes of one stand in it, and gives the place reached. Whether that is the end of what waits is asked once,
-// there, and not for each packet. (With a constant for nowhere the compiler's loop is longer by an instruction.)
+// there, and not for each packet. (With a constant for nowhere the compiler's loop is longer by an instruction.) A mark tells where the next stands, so no
+// index is counted that a `for` could count.
 fn walk_stretch(stretch: &[u8], from: usize) -> usize
     requires { (1 ≤ length stretch.now) × (length stretch.now ≤ queue_size) }
     ensures { LeadsOn stretch.now from result × (length stretch.now ≤ result + 1) }
@@ -98,6 +87,88 @@ fn walk_stretch(stretch: &[u8], from: usize) -> usize
 // A place behind every ring.
 const NOWHERE: usize = 2 * sizes::QUEUE_SIZE;
 
+// The used bytes of a ring, which stand round in its buffer from a start on; to the contracts they are a list.
+#[derive(Drop)]
+struct Ring<'a> {
+    buffer: &'a [u8],
+    start: usize,
+    used: usize,
+}
+
+impl<'a> Model for Ring<'a> {
+    ghost Value = { List ℕ };
+
+    ghost view = { λ ring. used_in ring.buffer.now ring.start ring.used };
+
+    ghost invariant = { λ ring. (length ring.buffer.now ≡ queue_size) × (ring.start < queue_size) × (ring.used ≤ queue_size) };
+}
+
+impl<'a> Ring<'a> {
+    fn len(&self) -> usize
+        ensures all { result ≡ length self.now }
+        ensures most { length self.now ≤ queue_size }
+    {
+        self.used
+    }
+
+    fn mark(&self, at: usize) -> usize
+        requires { at + 2 ≤ length self.now }
+        ensures { result ≡ slice_index self.now at * 256 + slice_index self.now (at + 1) }
+    {
+        mark_round(self.buffer, self.start, at)
+    }
+
+    // Whether there are packets from an index to the end of the used bytes, none of them begun: up to the buffer's end, over it, and behind it.
+    fn are_packets(&self, behind: usize) -> bool
+        requires { (1 ≤ length self.now) × (behind ≤ length self.now) }
+        ensures { result ≡ is_some (packets_in (drop behind self.now)) }
+    {
+        let near = sizes::QUEUE_SIZE - self.start; // from the start to the buffer's end
+        if self.used <= near {
+            let end = self.start + self.used;
+            return walk_stretch(&self.buffer[self.start..end], behind) == self.used;
+        }
+        let at = over_end(
+            self.buffer,
+            self.start,
+            walk_stretch(&self.buffer[self.start..], behind),
+        );
+        let far = self.used - near;
+        walk_stretch(&self.buffer[..far], at - near) == far
+    }
+
+    // Whether they stand for waiting packets; only the front one may be begun.
+    fn is_whole(&self) -> bool
+        ensures { result ≡ is_whole self.now }
+    {
+        let used = self.len();
+        if used < 2 {
+            return used == 0;
+        }
+        let mark = self.mark(0);
+        if mark < sizes::BEGUN_BIT {
+            return self.are_packets(0);
+        }
+        let n = mark - sizes::BEGUN_BIT;
+        is_length(used, 0, n, sizes::MOST_HELD) && self.are_packets(2 + n)
+    }
+
+    // How many packets they are, one that is begun among them: from mark to mark, without the bit that tells that one is begun.
+    fn packets(&self) -> usize
+        requires { is_whole self.now ≡ true }
+        ensures { result ≡ packet_count (queue_in self.now) }
+    {
+        let mut packets = 0;
+        let mut at = 0;
+        while at < self.len() {
+            let mark = self.mark(at);
+            at += 2 + mark % sizes::BEGUN_BIT;
+            packets += 1;
+        }
+        packets
+    }
+}
+
 // Goes on over a mark that the buffer's end parts, where the walk up to it stopped before one.
 fn over_end(queue: &[u8], start: usize, at: usize) -> usize
     requires { (length queue.now ≡ queue_size) × (1 ≤ start) × (start < queue_size) }
@@ -109,66 +180,31 @@ fn over_end(queue: &[u8], start: usize, at: usize) -> usize
     at
 }
 
-// Whether there are packets from an index to the end of the used bytes, none of them begun: up to the buffer's end, over it, and behind it.
-fn are_packets(queue: &[u8], start: usize, used: usize, behind: usize) -> bool
-    requires { (length queue.now ≡ queue_size) × (start < queue_size) × (1 ≤ used) × (used ≤ queue_size) × (behind ≤ used) }
-    ensures { result ≡ is_some (packets_in (drop behind (used_in queue.now start used))) }
-{
-    let near = sizes::QUEUE_SIZE - start; // from the start to the buffer's end
-    if used <= near {
-        let end = start + used;
-        return walk_stretch(&queue[start..end], behind) == used;
-    }
-    let at = over_end(queue, start, walk_stretch(&queue[start..], behind));
-    let far = used - near;
-    walk_stretch(&queue[..far], at - near) == far
-}
-
-// Whether the used bytes stand for waiting packets; only the front one may be begun.
-fn is_whole(queue: &[u8], start: usize, used: usize) -> bool
-    requires { (length queue.now ≡ queue_size) × (start < queue_size) × (used ≤ queue_size) }
-    ensures { result ≡ is_whole (used_in queue.now start used) }
-{
-    if used < 2 {
-        return used == 0;
-    }
-    let mark = mark_round(queue, start, 0);
-    if mark < sizes::BEGUN_BIT {
-        return are_packets(queue, start, used, 0);
-    }
-    let n = mark - sizes::BEGUN_BIT;
-    if !is_length(used, 0, n, sizes::MOST_HELD) {
-        return false;
-    }
-    are_packets(queue, start, used, 2 + n)
-}
-
 // Whether a start and a count are those of a ring, judged before any sum is made of them, and its used bytes stand for waiting packets (otherwise refusal 3).
 #[tactic(auto, unfolding(crate::specs::Queue::is_ring_whole))]
 pub fn is_ring_whole(queue: &[u8], start: usize, used: usize) -> bool
     requires { length queue.now ≡ queue_size }
     ensures { result ≡ is_ring_whole queue.now start used }
 {
-    if sizes::QUEUE_SIZE <= start {
-        return false;
-    }
-    if sizes::QUEUE_SIZE < used {
-        return false;
-    }
-    is_whole(queue, start, used)
+    start < sizes::QUEUE_SIZE
+        && used <= sizes::QUEUE_SIZE
+        && Ring {
+            buffer: queue,
+            start,
+            used,
+        }
+        .is_whole()
 }
 
-// How many packets wait in a ring that is whole, one that is begun among them: from mark to mark, without the bit that tells that one is begun.
+// How many packets wait in a ring that is whole, one that is begun among them.
 pub fn packets_waiting(queue: &[u8], start: usize, used: usize) -> usize
     requires { (length queue.now ≡ queue_size) × (is_ring_whole queue.now start used ≡ true) }
     ensures { result ≡ packet_count (waiting_in queue.now start used) }
 {
-    let mut packets: usize = 0;
-    let mut at: usize = 0;
-    while at < used {
-        let mark = mark_round(queue, start, at);
-        at = at + 2 + mark % sizes::BEGUN_BIT;
-        packets = packets + 1;
-    }
-    packets
+    let ring = Ring {
+        buffer: queue,
+        start,
+        used,
+    };
+    ring.packets()
 }

@@ -10,19 +10,11 @@ pub fn is_mark(at: usize, room: usize, mark: usize) -> bool
     ensures { result ≡ is_mark at room mark }
 {
     let length = mark % 2048;
-    if mark / 2048 % 8 != 0 {
-        return false;
-    }
-    if length < 1 {
-        return false;
-    }
-    if room < 2 + length {
-        return false;
-    }
-    if may_begin(at, mark) {
-        return may_end(room, mark);
-    }
-    false
+    mark / 2048 % 8 == 0
+        && 1 <= length
+        && 2 + length <= room
+        && may_begin(at, mark)
+        && may_end(room, mark)
 }
 
 // "First" is looked at before the position, since nearly all records have it.
@@ -30,18 +22,12 @@ pub fn is_mark(at: usize, room: usize, mark: usize) -> bool
 fn may_begin(at: usize, mark: usize) -> bool
     ensures { result ≡ may_begin at mark }
 {
-    if mark / sizes::FIRST_BIT % 2 == 1 {
-        return true;
-    }
-    at == 0
+    mark / sizes::FIRST_BIT % 2 == 1 || at == 0
 }
 
 #[tactic(auto, unfolding(crate::specs::Mark::may_end))]
 fn may_end(room: usize, mark: usize) -> bool
     ensures { result ≡ may_end room mark }
 {
-    if mark / sizes::LAST_BIT % 2 == 1 {
-        return true;
-    }
-    2 + mark % 2048 == room
+    mark / sizes::LAST_BIT % 2 == 1 || 2 + mark % 2048 == room
 }

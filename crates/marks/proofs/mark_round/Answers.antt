@@ -13,4 +13,5 @@ returns-then-near-at c =
 
 pub returns : goal.returns
 returns c =
-    c.number_of.ensures ∙ mark_parted c.args.queue.now c.args.start c.args.at c.requires.0 c.requires.1 (omega arith)
+    c.from.ensures ∙ c.from_be_bytes.ensures
+    ∙ mark_parted c.args.queue.now c.args.start c.args.at c.requires.0 c.requires.1 (omega arith)
