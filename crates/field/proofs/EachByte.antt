@@ -1,7 +1,7 @@
--- Laws of a function done to each byte of a number; from them the product of eight bytes, a bit of the factor at a time.
+-- Laws of a function done to each byte of a number; from them the product of several bytes, a bit of the factor at a time.
 use mathlib.Core.Path.{◌≡◌, refl, sym, ap, ap₂, ◌∙◌}
 use Prim.Native.Nat.{ℕ, zero, suc, ◌+◌, ◌-◌, ◌*◌, ◌/◌, ◌%◌, ◌^◌, ◌≤◌, ◌<◌}
-use native.Mathlib.Nat.{mod-lt, pow-suc, not-suc-le-zero, le_of_suc-le-suc}
+use native.Mathlib.Nat.{zero-add, mod-lt, pow-suc, not-suc-le-zero, le_of_suc-le-suc}
 use native.Mathlib.Omega.{arith}
 use lib.Dec.{lit<}
 use lib.Arith.{le-zero}
@@ -9,7 +9,7 @@ use lib.Bits.{bit_xor, xor_block, xor_zero_r}
 use Rattle.basics.proofs.Numbers.{byte_at}
 use Rattle.basics.proofs.Xor.{bit_cases, bit_mul_lt, xor_assoc}
 use Rattle.field.specs.Field.{double, sum_over, times}
-use Rattle.field.specs.EachByte.{each_byte, times_each}
+use Rattle.field.specs.EachByte.{each_byte}
 use Rattle.field.proofs.Double.{double_lt}
 use Rattle.field.proofs.Laws.{sum_lt}
 
@@ -23,6 +23,11 @@ pub each_lt : (f : ℕ → ℕ) → KeepsBytes f → (n x : ℕ) → each_byte f
 unfolding each_byte
 each_lt f hf zero x = lit< tt
 each_lt f hf (suc n) x = omega (arith, each_lt f hf n (x / 256), hf (x % 256) (byte x), pow-suc 256 n)
+
+-- a number of one byte
+pub each_one : (f : ℕ → ℕ) (x : ℕ) → x < 256 → each_byte f 1 x ≡ f x
+unfolding each_byte
+each_one f x h = let own : x % 256 ≡ x = omega arith in zero-add (f (x % 256)) ∙ ap f own
 
 -- ---- the lowest byte, and those above it
 
@@ -79,29 +84,32 @@ each_bit u n x hu h =
     (each_same (λ b. 0 * b) (λ b. 0) (λ b. omega arith) n x ∙ each_zero n x ∙ omega arith)
     (each_same (λ b. 1 * b) (λ b. b) (λ b. omega arith) n x ∙ each_id n x h ∙ omega arith) u hu
 
--- ---- the product: n bits of the factor are left
+-- ---- the product of m bytes: n bits of the factor are left
 
-each_sum : (n a y : ℕ) → y < 256 ^ 8
-    → bit_xor (a % 2 * y) (each_byte (sum_over n (a / 2)) 8 (each_byte double 8 y)) ≡ each_byte (sum_over (suc n) a) 8 y
+each_sum : (m n a y : ℕ) → y < 256 ^ m
+    → bit_xor (a % 2 * y) (each_byte (sum_over n (a / 2)) m (each_byte double m y)) ≡ each_byte (sum_over (suc n) a) m y
 unfolding sum_over
-each_sum n a y h =
+each_sum m n a y h =
     let bit = mod-lt a (lit< tt) in
-    ap₂ bit_xor (sym (each_bit (a % 2) 8 y bit h)) (each_each (sum_over n (a / 2)) double double_lt 8 y)
+    ap₂ bit_xor (sym (each_bit (a % 2) m y bit h)) (each_each (sum_over n (a / 2)) double double_lt m y)
     ∙ sym (each_plus (λ b. a % 2 * b) (λ b. sum_over n (a / 2) (double b)) (λ b hb. bit_mul_lt (a % 2) b 256 bit hb)
-    (λ b hb. sum_lt n (a / 2) (double b) (double_lt b hb)) 8 y)
+    (λ b hb. sum_lt n (a / 2) (double b) (double_lt b hb)) m y)
 
-pub product_start : (a bytes : ℕ) → bit_xor 0 (each_byte (sum_over 8 a) 8 bytes) ≡ times_each bytes a
-unfolding times times_each
-product_start a bytes = refl
+pub product_start : (m sum a y : ℕ) → sum ≡ 0 → bit_xor sum (each_byte (sum_over 8 a) m y) ≡ each_byte (times a) m y
+unfolding times
+product_start m sum a y e = ap (λ (x : ℕ). bit_xor x (each_byte (sum_over 8 a) m y)) e
 
-pub product_turn : (sum a y n : ℕ) → y < 256 ^ 8 → 0 < n
-    → bit_xor (bit_xor sum (a % 2 * y)) (each_byte (sum_over (n - 1) (a / 2)) 8 (each_byte double 8 y)) ≡ bit_xor sum (each_byte (sum_over n a) 8 y)
-product_turn sum a y n hy h =
-    let back : suc (n - 1) ≡ n = omega arith in
-    xor_assoc sum (a % 2 * y) (each_byte (sum_over (n - 1) (a / 2)) 8 (each_byte double 8 y))
-    ∙ ap (bit_xor sum) (each_sum (n - 1) a y hy ∙ ap (λ (m : ℕ). each_byte (sum_over m a) 8 y) back)
+-- turn i of eight
+pub product_turn : (m sum a y i : ℕ) → y < 256 ^ m → i < 8
+    → bit_xor (bit_xor sum (a % 2 * y)) (each_byte (sum_over (8 - (i + 1)) (a / 2)) m (each_byte double m y))
+    ≡ bit_xor sum (each_byte (sum_over (8 - i) a) m y)
+product_turn m sum a y i hy h =
+    let n = 8 - (i + 1) in
+    let back : suc n ≡ 8 - i = omega arith in
+    xor_assoc sum (a % 2 * y) (each_byte (sum_over n (a / 2)) m (each_byte double m y))
+    ∙ ap (bit_xor sum) (each_sum m n a y hy ∙ ap (λ (k : ℕ). each_byte (sum_over k a) m y) back)
 
-pub product_end : (sum a y n : ℕ) → n ≤ 0 → bit_xor sum (each_byte (sum_over n a) 8 y) ≡ sum
+pub product_end : (m sum a y n : ℕ) → n ≤ 0 → bit_xor sum (each_byte (sum_over n a) m y) ≡ sum
 unfolding sum_over
-product_end sum a y n h =
-    ap (λ (m : ℕ). bit_xor sum (each_byte (sum_over m a) 8 y)) (le-zero h) ∙ ap (bit_xor sum) (each_zero 8 y) ∙ xor_zero_r sum
+product_end m sum a y n h =
+    ap (λ (k : ℕ). bit_xor sum (each_byte (sum_over k a) m y)) (le-zero h) ∙ ap (bit_xor sum) (each_zero m y) ∙ xor_zero_r sum

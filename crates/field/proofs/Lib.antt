@@ -4,4 +4,3 @@ pub mod Raised
 pub mod Powers
 pub mod EachByte
 mod Tops
-mod Shifts

@@ -1,14 +1,10 @@
 -- Byte by byte: those that are done hold the product of their pair.
 use mathlib.Core.Path.{◌≡◌}
-use Prim.Native.Nat.{ℕ, ◌-◌, ◌≤◌, ◌<◌}
+use Prim.Native.Nat.{ℕ, ◌<◌}
 use lib.ListN.{length, get_or}
 use Rattle.field.specs.Field.{times}
 use Rattle.field.proofs.products.Given as goal
 
 abbrev pub invariant-loop-i : goal.invariant-loop-i
 invariant-loop-i l =
-    (l.i ≤ 16) × (length l.out ≡ 16) × (length l.a ≡ 16) × (length l.b ≡ 16)
-    × ((k : ℕ) → k < l.i → get_or l.out k 0 ≡ times (get_or l.a k 0) (get_or l.b k 0))
-
-abbrev pub decreases-loop-i : goal.decreases-loop-i
-decreases-loop-i l = 16 - l.i
+    (length l.out ≡ 16) × ((k : ℕ) → k < l.i → get_or l.out k 0 ≡ times (get_or l.a k 0) (get_or l.b k 0))

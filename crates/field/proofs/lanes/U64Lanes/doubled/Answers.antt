@@ -1,6 +1,6 @@
 -- That both masks together double all eight bytes is `doubles` of Tops.antt.
 use Rattle.field.proofs.Tops.{doubles}
-use Rattle.field.proofs.double_each.Goals as goal
+use Rattle.field.proofs.lanes.U64Lanes.doubled.Goals as goal
 
 pub returns : goal.returns
-returns c = doubles 8 c.args.bytes
+returns c = doubles 8 c.args.self
