@@ -1,26 +1,56 @@
 -- What is known of a frame that passes the tables of its refusals; how the two numbers that `open` goes by are the table's; how long what was unscrambled is.
-use mathlib.Core.Path.{◌≡◌, refl, sym, ap, ◌∙◌}
-use mathlib.Core.List.{List, [], ◌∷◌}
+use mathlib.Core.Path.{◌≡◌, refl, sym, ap, ap₂, ◌∙◌}
+use mathlib.Core.List.{List, [], ◌∷◌, ◌++◌}
 use mathlib.Core.Bool.{Bool, true, ◌&&◌}
 use Prim.Native.Nat.{ℕ, ◌-◌, ◌≤◌}
 use borrow.Author.Tests.{eqb-true, leb-true, eq-eqb, le-leb}
 use lib.Dec.{eqb, leb, lit<}
 use lib.ListN.{length, take, drop, length-drop}
-use Rattle.basics.specs.Lists.{same, is_some}
+use Rattle.std.specs.Prelude.{Ok, Err, is_some}
+use Rattle.basics.specs.Lists.{same}
 use Rattle.basics.proofs.Tests.{left_true, right_true, same_true, same_self}
+use Rattle.refusals.specs.declared.Refusal.{Refusal}
+use Rattle.refusals.specs.Numbers.{answer_by, judged_by}
 use Rattle.refusals.specs.Table.{Row, ◌unless◌, first_of}
+use Rattle.refusals.proofs.Numbers.{refused, answered}
 use Rattle.refusals.proofs.Table.{unless_passed, first_earlier, first_later, both_passed}
 use Rattle.scrambler.specs.Scrambler.{taps_allowed}
 use Rattle.scrambler.proofs.Laws.{scrambled_length}
-use Rattle.header_reading.specs.Reading.{header_table}
+use Rattle.header.specs.declared.Header.{Header}
+use Rattle.header_reading.specs.Reading.{header_of, header_table, sum_holds, rules_hold}
 use Rattle.frame.specs.Frame.{preamble}
 use Rattle.nearest.specs.Near.{near_header}
 use Rattle.repairing.specs.Body.{words_near, repaired_body}
-use Rattle.opening.specs.Opening.{unscrambled, header_part, area_checked, repaired_table, body_table, frame_table, open_table, open_refusal}
+use Rattle.repairing.specs.Words.{BodyOutcome}
+use Rattle.repairing.specs.declared.body.BodyAnswer.{BodyAnswer}
+use Rattle.repairing.proofs.Laws.{count_is}
+use Rattle.opening.specs.declared.Opened.{Opened}
+use Rattle.opening.specs.Opening.{unscrambled, header_part, area_part, area_checked, repaired_table, body_table, frame_table, open_table, open_refusal}
+use Rattle.opening.specs.Opening.{opened_header, opened_area, opened_wrong}
+
+abbrev opened : Header → ℕ → Opened
+opened header wrong = record { header = header; repaired = wrong }
+
+-- what rows refuse is refused by these and others behind them
+refused_early : {A B : Type 0} (refusal : Refusal) (judged : A) (done : B) (a b : List Row) → Err refusal ≡ answer_by (first_of a) judged
+    → Err refusal ≡ answer_by (first_of (a ++ b)) done
+refused_early refusal judged done a b e =
+    let ne : first_of a ≡ 0 → ⊥ = λ z. no_answer (e ∙ sym (answered (first_of a) judged judged z refl)) in
+    refused (first_of (a ++ b)) refusal judged done (e ∙ ap (λ (n : ℕ). answer_by n judged) (sym (first_earlier a b ne)))
+  where
+    no_answer : Err refusal ≡ Ok judged → ⊥
+    no_answer same = cc
 
 pub unscrambled_length : (taps : ℕ) (frame : List ℕ) → length frame ≡ 2081 → length (unscrambled taps frame) ≡ 2072
 unfolding unscrambled
 unscrambled_length taps frame e = scrambled_length taps (drop 9 frame) ∙ length-drop 9 frame ∙ ap (λ (n : ℕ). n - 9) e
+
+-- where the header's rows are passed each was
+pub header_passed : (part body : List ℕ) → part ≡ header_part body → first_of (header_table part) ≡ 0
+    → (sum_holds (header_part body) ≡ true) × (rules_hold (header_part body) ≡ true)
+header_passed part body e none =
+    let nine = unless_passed 9 (sum_holds (header_part body)) _ (lit< tt) (ap (λ (l : List ℕ). first_of (header_table l)) (sym e) ∙ none) in
+    (nine.0, (unless_passed 11 (rules_hold (header_part body)) [] (lit< tt) nine.1).0)
 
 -- ---- the rows from 7 on
 
@@ -36,9 +66,10 @@ module _ (words : Bool) (body : List ℕ) where
   abbrev payload_rows : List Row
   payload_rows = 12 unless words ∷ 13 unless area_checked body ∷ []
 
-  pub header_first : (n : ℕ) → n ≡ first_of (header_table (header_part body)) → (n ≡ 0 → ⊥) → n ≡ first_of (repaired_table true words body)
+  pub header_refused : (refusal : Refusal) → Err refusal ≡ judged_by (first_of (header_table (header_part body)))
+      → Err refusal ≡ judged_by (first_of (repaired_table true words body))
   unfolding first_of
-  header_first n e ne = e ∙ sym (first_earlier (header_table (header_part body)) payload_rows (λ z. ne (e ∙ z)))
+  header_refused refusal e = refused_early refusal tt tt (header_table (header_part body)) payload_rows e
 
   pub payload_then : first_of (header_table (header_part body)) ≡ 0 → first_of (repaired_table true words body) ≡ first_of payload_rows
   unfolding first_of
@@ -103,17 +134,34 @@ module _ (taps : ℕ) (frame area : List ℕ) where
   unfolding open_refusal first_of
   open_by_frame r = rw (r.allowed, eq-eqb (length frame) 2081 r.long, le-leb 1908 (length area) r.room)
 
-  -- ---- the two numbers that `open` goes by: of the first three rows, and of those behind them
+  -- ---- the two judges that `open` goes by: of the first three rows, and of those behind them
 
-  pub outer_first : (n : ℕ) → n ≡ first_of (take 3 (open_table taps frame area)) → (n ≡ 0 → ⊥) → n ≡ open_refusal taps frame area
+  pub outside_refused : (refusal : Refusal) → Err refusal ≡ judged_by (first_of (take 3 (open_table taps frame area)))
+      → Err refusal ≡ judged_by (open_refusal taps frame area)
   unfolding open_refusal
-  outer_first n e ne =
-      e ∙ sym (first_earlier (take 3 (open_table taps frame area)) (body_table (unscrambled taps frame)) (λ z. ne (e ∙ z)))
+  outside_refused refusal e = refused_early refusal tt tt (take 3 (open_table taps frame area)) (body_table (unscrambled taps frame)) e
 
-  pub inner_then : (n m : ℕ) → n ≡ first_of (take 3 (open_table taps frame area)) → n ≡ 0 → m ≡ first_of (body_table (unscrambled taps frame))
-      → m ≡ open_refusal taps frame area
-  unfolding open_refusal
-  inner_then n m e z f = f ∙ sym (first_later (take 3 (open_table taps frame area)) (body_table (unscrambled taps frame)) refl (sym e ∙ z))
+  -- what is known where the first passes: of what was lent, ..
+  module _ (none : first_of (take 3 (open_table taps frame area)) ≡ 0) where
+    pub outside_passed : Ready
+    outside_passed = (passed_two (take 1 (frame_table taps frame)) none).0
 
-  pub outer_passed : first_of (take 3 (open_table taps frame area)) ≡ 0 → Ready
-  outer_passed e = (passed_two (take 1 (frame_table taps frame)) e).0
+    -- .. and of the body that is unscrambled and repaired: the rows behind, what they are asked of, and how many bytes were wrong
+    module _ {arrived body : List ℕ} {near : BodyAnswer} (came : arrived ≡ unscrambled taps frame) (repaired : BodyOutcome arrived near body) where
+      pub inside_number : first_of (repaired_table near.header near.words body) ≡ open_refusal taps frame area
+      unfolding open_refusal
+      inside_number =
+          rw (repaired.header, repaired.words, repaired.bytes, came)
+          (sym (first_later (take 3 (open_table taps frame area)) (body_table (unscrambled taps frame)) refl none))
+
+      pub inside_area : area_part body ≡ opened_area taps frame
+      unfolding opened_area
+      inside_area = ap area_part (repaired.bytes ∙ ap repaired_body came)
+
+      pub inside_opened : {header : Header} → header ≡ header_of (header_part body)
+          → ◌≡◌ {A = Opened} record { header = header; repaired = near.wrong } record { header = opened_header taps frame; repaired = opened_wrong taps frame }
+      unfolding opened_header unscrambled
+      inside_opened e =
+          let size = length-drop 9 frame ∙ ap (λ (n : ℕ). n - 9) outside_passed.long in
+          ap₂ opened (e ∙ ap (λ (l : List ℕ). header_of (header_part l)) (repaired.bytes ∙ ap repaired_body came))
+          (repaired.count ∙ count_is taps (drop 9 frame) size arrived came)

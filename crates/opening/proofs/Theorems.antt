@@ -6,46 +6,50 @@ use mathlib.Core.Bool.{true}
 use mathlib.Core.List.{List}
 use Prim.Native.Nat.{ℕ, ◌≤◌}
 use lib.ListN.{length}
+use Rattle.std.specs.Prelude.{Result, Ok, Err}
 use Rattle.basics.specs.Lists.{Bytes}
 use Rattle.lent.specs.Written.{written}
-use Rattle.refusals.proofs.Table.{accepted, numbered}
+use Rattle.refusals.specs.declared.Refusal.{Refusal}
+use Rattle.refusals.specs.Numbers.{number_in, refusal_of}
+use Rattle.refusals.proofs.Table.{accepted}
+use Rattle.refusals.proofs.Numbers.{numbered, answered}
 use Rattle.scrambler.specs.Scrambler.{taps_allowed}
 use Rattle.header.specs.Header.{ReservedBits, header_fits}
 use Rattle.header.specs.declared.Header.{Header}
 use Rattle.frame.specs.Frame.{frame_bytes_with}
-use Rattle.opening.specs.Opening.{open_refusal, opened_header, opened_reserved, opened_area, open_number, OpenOutcome}
+use Rattle.opening.specs.Opening.{open_table, open_refusal, opened_header, opened_reserved, opened_area, OpenOutcome}
 use Rattle.nearest.specs.Near.{differences}
 use Rattle.opening.specs.NearFrame.{NearFrame}
-use Rattle.opening.specs.declared.OpenAnswer.{OpenAnswer}
-use Rattle.opening.specs.declared.OpenAnswer.TheVariants.{Opened, Refused}
+use Rattle.opening.specs.declared.Opened.{Opened}
 use Rattle.opening.proofs.Laws.{open_passed}
 use Rattle.opening.proofs.Built.{near_accepted, near_header_lem, near_area, near_wrong}
 use Rattle.opening.proofs.Accepted.{accepted_near, accepted_fits, accepted_area, accepted_bytes}
 
 -- the answer's number is the refusal's
-pub open_numbers : {taps : ℕ} {frame before : List ℕ} {r : OpenAnswer} {after : List ℕ} → OpenOutcome taps frame before r after
-    → open_number r ≡ open_refusal taps frame before
-open_numbers x = ap open_number x.answer ∙ numbered open_number _ Refused refl (λ n. refl) _
+pub open_numbers : {taps : ℕ} {frame before : List ℕ} {r : Result Opened Refusal} {after : List ℕ} → OpenOutcome taps frame before r after
+    → number_in r ≡ open_refusal taps frame before
+unfolding open_refusal refusal_of
+open_numbers {taps} {frame} {before} x = ap number_in x.answer ∙ numbered (open_table taps frame before) _ refl
 
 -- the header and the count in an answer, or others where there are none
-abbrev header_in : Header → OpenAnswer → Header
-header_in other (Opened header repaired) = header
-header_in other (Refused number) = other
+abbrev header_in : Header → Result Opened Refusal → Header
+header_in other (Ok opened) = opened.header
+header_in other (Err refusal) = other
 
-abbrev repaired_in : ℕ → OpenAnswer → ℕ
-repaired_in other (Opened header repaired) = repaired
-repaired_in other (Refused number) = other
+abbrev repaired_in : ℕ → Result Opened Refusal → ℕ
+repaired_in other (Ok opened) = opened.repaired
+repaired_in other (Err refusal) = other
 
 -- Opening what is near a built frame answers its header and how many bytes differ, and writes its area, for every header that may be sent, all reserved bits and
 -- every 1,908 bytes, into any buffer that is large enough.
-pub open_of_near : (taps : ℕ) (reserved : ReservedBits) (header : Header) (area came before : List ℕ) (r : OpenAnswer) (after : List ℕ)
+pub open_of_near : (taps : ℕ) (reserved : ReservedBits) (header : Header) (area came before : List ℕ) (r : Result Opened Refusal) (after : List ℕ)
     → taps_allowed taps ≡ true → header_fits header ≡ true → length area ≡ 1908 → Bytes area → 1908 ≤ length before
     → NearFrame came (frame_bytes_with taps reserved header area) → OpenOutcome taps came before r after
-    → (r ≡ Opened header (differences came (frame_bytes_with taps reserved header area))) × (after ≡ written before 0 area)
+    → (r ≡ Ok record { header = header; repaired = differences came (frame_bytes_with taps reserved header area) }) × (after ≡ written before 0 area)
 open_of_near taps reserved header area came before r after t h e bytes room near outcome =
     let none = near_accepted taps reserved header area e bytes came near before t h room in (
       outcome.answer ∙ sym (accepted 0 _ _ _ _ (sym none) refl refl)
-          ∙ ap₂ (λ (x : Header) (n : ℕ). Opened x n) (near_header_lem taps reserved header area e bytes came near h) (near_wrong taps reserved header area e bytes came near),
+          ∙ ap₂ (λ (x : Header) (n : ℕ). Ok record { header = x; repaired = n }) (near_header_lem taps reserved header area e bytes came near h) (near_wrong taps reserved header area e bytes came near),
       outcome.bytes ∙ sym (accepted 0 _ _ _ _ (sym none) refl refl) ∙ ap (written before 0) (near_area taps reserved header area e bytes came near),
     )
 
@@ -60,7 +64,7 @@ pub record AcceptedAs (taps : ℕ) (frame : List ℕ) (header : Header) (repaire
 
 -- Whatever is accepted is near what would be built of the header that was answered, the reserved bits that came and the area that was written.
 pub near_of_open : (taps : ℕ) (frame before : List ℕ) (header : Header) (repaired : ℕ) (after : List ℕ)
-    → OpenOutcome taps frame before (Opened header repaired) after
+    → OpenOutcome taps frame before (Ok record { header = header; repaired = repaired }) after
     → AcceptedAs taps frame header repaired (opened_area taps frame) × (after ≡ written before 0 (opened_area taps frame))
 near_of_open taps frame before header repaired after outcome =
     let none : open_refusal taps frame before ≡ 0 = sym (open_numbers outcome) in

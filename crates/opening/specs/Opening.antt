@@ -1,7 +1,7 @@
 -- Opening a frame (01, "Refusal numbers"; 02, M-106 and M-101): the refusals 1, 2, 7 to 9 and 11 to 13, and the header and the area of a frame that is
 -- accepted, as they are where up to 8 wrong bytes of the coded header and of each payload word are repaired.
-use Rattle.std.specs.Prelude.{◌≡◌, Bool, ◌&&◌, List, [], ◌∷◌, ◌++◌, ℕ, ◌+◌, eqb, leb, length, take, drop, Result}
-use Rattle.basics.specs.Lists.{same, is_some}
+use Rattle.std.specs.Prelude.{◌≡◌, Bool, ◌&&◌, List, [], ◌∷◌, ◌++◌, ℕ, ◌+◌, eqb, leb, length, take, drop, Result, is_some}
+use Rattle.basics.specs.Lists.{same}
 use Rattle.basics.specs.Sizes.{area_size, frame_size}
 use Rattle.refusals.specs.Numbers.{answer_by}
 use Rattle.refusals.specs.Table.{Row, ◌unless◌, first_of, by}

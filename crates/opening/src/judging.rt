@@ -24,7 +24,7 @@ pub fn judge_outside(taps: u32, frame: &[u8], area: &[u8]) -> Result<(), Refusal
     if frame.len() != sizes::FRAME_SIZE || area.len() < sizes::AREA_SIZE {
         return Err(Refusal::Size);
     }
-    if frame[..9] != frame::preamble() {
+    if !lent::are_same(&frame[..9], &frame::preamble()) {
         return Err(Refusal::Preamble);
     }
     Ok(())
@@ -59,14 +59,16 @@ pub fn judge_inside(header: bool, words: bool, body: &[u8; 2072]) -> Result<(), 
     if !words {
         return Err(Refusal::PayloadWord);
     }
-    if !is_area_checked(body) {
-        return Err(Refusal::AreaSum);
+    if is_area_checked(body) {
+        Ok(())
+    } else {
+        Err(Refusal::AreaSum)
     }
-    Ok(())
 }
 
 fn is_area_checked(body: &[u8; 2072]) -> bool
     ensures { result ≡ area_checked body.now }
 {
-    body[AREA_END..CHECK_END] == frame::area_check(&body[32..AREA_END])
+    let check = frame::area_check(&body[32..AREA_END]);
+    lent::are_same(&body[AREA_END..CHECK_END], &check)
 }
