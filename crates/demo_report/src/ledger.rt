@@ -1,7 +1,25 @@
 // A ledger marks blocks by their numbers.
+use std::ops::Range;
 
 // Numbers of blocks are below this one.
 pub const BLOCKS: usize = 64;
+
+// Blocks that follow each other: from the number `first` up to the one before `end`.
+#[derive(Clone, Copy)]
+pub struct Blocks {
+    pub first: u16,
+    pub end: u16,
+}
+
+impl Blocks {
+    pub fn none() -> Blocks {
+        Blocks { first: 0, end: 0 }
+    }
+
+    pub fn numbers(self) -> Range<u16> {
+        self.first..self.end
+    }
+}
 
 #[derive(Clone, Copy)]
 pub struct Ledger {
@@ -15,58 +33,27 @@ impl Ledger {
         }
     }
 
-    pub fn with(self, number: u16) -> Ledger {
-        let mut next = self;
-        let place = number as usize;
-        if place < BLOCKS {
-            next.marked[place] = true;
+    pub fn mark(&mut self, number: u16) {
+        if let Some(mark) = self.marked.get_mut(number as usize) {
+            *mark = true;
         }
-        next
     }
 
-    // With the blocks from `first` up to the one before `end`.
-    pub fn with_all(self, first: u16, end: u16) -> Ledger {
-        let mut next = self;
-        for number in first..end {
-            let place = number as usize;
-            if place < BLOCKS {
-                next.marked[place] = true;
-            }
+    pub fn mark_all(&mut self, blocks: Blocks) {
+        for number in blocks.numbers() {
+            self.mark(number);
         }
-        next
     }
 }
 
 // Of the blocks that were put, how many came out exactly if no frame with a part of them was lost or refused.
-pub fn as_promised(broken: Ledger, out: Ledger, put: u16) -> u64 {
-    let broken_at = broken.marked;
-    let out_at = out.marked;
-    let mut count: u64 = 0;
-    for number in 0..put {
-        let place = number as usize;
-        if place < BLOCKS {
-            if broken_at[place] != out_at[place] {
-                count = printing::more(count);
-            }
-        }
-    }
-    count
+pub fn as_promised(broken: &Ledger, out: &Ledger, put: u16) -> usize {
+    let both = broken.marked.iter().zip(out.marked.iter());
+    both.take(put as usize).filter(|(is_broken, is_out)| is_broken != is_out).count()
 }
 
 // Of the blocks that were put, how many are marked in both ledgers.
-pub fn in_both(one: Ledger, other: Ledger, put: u16) -> u64 {
-    let one_at = one.marked;
-    let other_at = other.marked;
-    let mut count: u64 = 0;
-    for number in 0..put {
-        let place = number as usize;
-        if place < BLOCKS {
-            if one_at[place] {
-                if other_at[place] {
-                    count = printing::more(count);
-                }
-            }
-        }
-    }
-    count
+pub fn in_both(one: &Ledger, other: &Ledger, put: u16) -> usize {
+    let both = one.marked.iter().zip(other.marked.iter());
+    both.take(put as usize).filter(|(is_in_one, is_in_other)| **is_in_one && **is_in_other).count()
 }

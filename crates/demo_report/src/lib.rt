@@ -7,8 +7,5 @@ pub mod totals;
 
 // The first bytes of a buffer, or all where there are fewer.
 pub fn front(bytes: &[u8], count: usize) -> &[u8] {
-    if bytes.len() < count {
-        return bytes;
-    }
-    &bytes[0..count]
+    &bytes[..count.min(bytes.len())]
 }

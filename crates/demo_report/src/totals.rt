@@ -1,9 +1,9 @@
 // What the session came to, in numbers.
-use printing::more;
+use std::fmt;
 use std::io;
 use std::io::Write;
 
-#[derive(Clone, Copy)]
+#[derive(Clone, Copy, Default)]
 pub struct Totals {
     pub received: u64,
     // Those received of which bytes were repaired.
@@ -14,53 +14,37 @@ pub struct Totals {
     pub missed: u64,
 }
 
+// Counts stay at the largest number, which no session reaches.
 impl Totals {
-    pub fn none() -> Totals {
-        Totals {
-            received: 0,
-            repaired: 0,
-            refused: 0,
-            lost: 0,
-            missed: 0,
-        }
-    }
-
-    pub fn with_received(self, repaired: u8, missed: u16) -> Totals {
-        let mut next = self;
-        next.received = more(self.received);
+    pub fn count_received(&mut self, repaired: u8, missed: u16) {
+        self.received = self.received.saturating_add(1);
         if 0 < repaired {
-            next.repaired = more(self.repaired);
+            self.repaired = self.repaired.saturating_add(1);
         }
-        next.missed = self.missed.wrapping_add(missed as u64);
-        next
+        self.missed = self.missed.saturating_add(missed as u64);
     }
 
-    pub fn with_refused(self) -> Totals {
-        let mut next = self;
-        next.refused = more(self.refused);
-        next
+    pub fn count_refused(&mut self) {
+        self.refused = self.refused.saturating_add(1);
     }
 
-    pub fn with_lost(self) -> Totals {
-        let mut next = self;
-        next.lost = more(self.lost);
-        next
+    pub fn count_lost(&mut self) {
+        self.lost = self.lost.saturating_add(1);
     }
 }
 
-// A number and what it counts.
-fn say<W: Write>(out: &mut W, number: u64, what: &[u8]) -> io::Result<()> {
-    printing::number(out, number)?;
-    printing::say(out, what)
+impl fmt::Display for Totals {
+    fn fmt<W: fmt::Write>(&self, f: &mut fmt::Formatter<W>) -> fmt::Result {
+        write!(
+            f,
+            "{} received, {} of them repaired, {} refused, {} lost; the missed counts add up to {}",
+            self.received, self.repaired, self.refused, self.lost, self.missed,
+        )
+    }
 }
 
-pub fn print_frames<W: Write>(out: &mut W, totals: Totals) -> io::Result<()> {
-    printing::say(out, b"\n\nframes: ")?;
-    say(out, totals.received, b" received, ")?;
-    say(out, totals.repaired, b" of them repaired, ")?;
-    say(out, totals.refused, b" refused, ")?;
-    say(out, totals.lost, b" lost; the missed counts add up to ")?;
-    say(out, totals.missed, b"\n")
+pub fn print_frames<W: Write>(out: &mut W, totals: &Totals) -> io::Result<()> {
+    write!(out, "\n\nframes: {totals}\n")
 }
 
 pub fn print_blocks<W: Write>(
@@ -68,20 +52,17 @@ pub fn print_blocks<W: Write>(
     put: u16,
     came_out: u64,
     unaltered: u64,
-    mended: u64,
+    mended: usize,
 ) -> io::Result<()> {
-    printing::say(out, b"blocks: ")?;
-    say(out, put as u64, b" put, ")?;
-    say(out, came_out, b" came out, ")?;
-    say(out, unaltered, b" of these unaltered, ")?;
-    say(out, mended, b" with a part in a repaired frame\n")
+    writeln!(
+        out,
+        "blocks: {put} put, {came_out} came out, {unaltered} of these unaltered, {mended} with a part in a repaired frame",
+    )
 }
 
-pub fn print_promised<W: Write>(out: &mut W, promised: u64, put: u16) -> io::Result<()> {
-    printing::say(
+pub fn print_promised<W: Write>(out: &mut W, promised: usize, put: u16) -> io::Result<()> {
+    writeln!(
         out,
-        b"blocks that came out exactly if every frame with a part of them was received: ",
-    )?;
-    say(out, promised, b" of ")?;
-    say(out, put as u64, b"\n")
+        "blocks that came out exactly if every frame with a part of them was received: {promised} of {put}",
+    )
 }
