@@ -9,7 +9,7 @@ ghost use Rattle.demo_views.specs.Views.{Records, Tunes};
 fn gaps_before(number: u64, due: u64) -> u64
     ensures { result ≡ (if nat_eq number due then 0 else 1) }
 {
-    if number == due { 0 } else { 1 }
+    u64::from(number != due)
 }
 
 // Where the newest run begins once a block has come, if it began at `first` before.
