@@ -1,227 +1,137 @@
 // The far end: what arrives is opened and applied, and the packets that come out go to the recorder and the tuner.
-ghost use Rattle.std.specs.Prelude.{◌≤◌, length};
-ghost use Rattle.basics.specs.Sizes.{frame_size};
-
+use crate::TAPS;
 use crate::readers::Readers;
-use crate::{TAPS, readers};
 use basics::sizes;
-use demo_report::ledger::Ledger;
+use demo_report::ledger::{Blocks, Ledger};
 use demo_report::totals::Totals;
 use demo_report::{ledger, table, totals};
 use demo_scenario::beam;
 use demo_scenario::beam::Fate;
-use header::Header;
-use opening::OpenAnswer;
-use receiver::{ApplyAnswer, Receiver};
+use receiver::{Applied, Receiver};
+use refusals::Refusal;
 use std::io;
 use std::io::Write;
 
-#[derive(Clone, Copy)]
 pub struct FarEnd {
-    pub receiver: Receiver,
-    pub readers: Readers,
-    pub totals: Totals,
+    receiver: Receiver,
+    area: [u8; sizes::AREA_SIZE],
+    hold: [u8; sizes::HOLD_SIZE],
+    list: [u8; sizes::LIST_SIZE],
+    readers: Readers,
+    totals: Totals,
     // The blocks of which a part was lost or refused.
-    pub broken: Ledger,
+    broken: Ledger,
     // The blocks of which a part was received in a frame that was repaired.
-    pub mended: Ledger,
+    mended: Ledger,
 }
 
 impl FarEnd {
     pub fn fresh() -> FarEnd {
         FarEnd {
             receiver: Receiver::fresh(),
+            area: [0; sizes::AREA_SIZE],
+            hold: [0; sizes::HOLD_SIZE],
+            list: [0; sizes::LIST_SIZE],
             readers: Readers::new(),
-            totals: Totals::none(),
+            totals: Totals::default(),
             broken: Ledger::new(),
             mended: Ledger::new(),
         }
     }
 
-    fn with_received(
-        self,
-        receiver: Receiver,
-        readers: Readers,
-        repaired: u8,
-        missed: u16,
-    ) -> FarEnd {
-        let totals = self.totals.with_received(repaired, missed);
-        let broken = self.broken;
-        let mended = self.mended;
-        FarEnd {
-            receiver,
-            readers,
-            totals,
-            broken,
-            mended,
-        }
+    // A frame is lost: the blocks that it carries do not come out.
+    fn lose<W: Write>(&mut self, out: &mut W, blocks: Blocks) -> io::Result<()> {
+        self.totals.count_lost();
+        self.broken.mark_all(blocks);
+        table::lost(out)
     }
 
-    // With the blocks of a frame that is received marked as mended, where bytes of it were repaired.
-    fn with_mended(self, repaired: u8, first: u16, end: u16) -> FarEnd {
-        if repaired == 0 {
-            return self;
-        }
-        let mut next = self;
-        let mended = self.mended.with_all(first, end);
-        next.mended = mended;
-        next
-    }
-
-    // With a frame lost: what it carries, blocks from `first` up to the one before `end`, does not come out.
-    fn with_lost(self, first: u16, end: u16) -> FarEnd {
-        let mut next = self;
-        let totals = self.totals.with_lost();
-        let broken = self.broken.with_all(first, end);
-        next.totals = totals;
-        next.broken = broken;
-        next
-    }
-
-    // With a frame refused, by the one call or the other: its number is told, and the rest is the same.
-    fn with_refused<W: Write>(
-        self,
+    // A frame is refused, by the one call or the other: its number is told, and the rest is the same.
+    fn refuse<W: Write>(
+        &mut self,
         out: &mut W,
-        refusal: u8,
-        first: u16,
-        end: u16,
-    ) -> io::Result<FarEnd> {
-        table::refused(out, refusal)?;
-        let mut next = self;
-        let totals = self.totals.with_refused();
-        let broken = self.broken.with_all(first, end);
-        next.totals = totals;
-        next.broken = broken;
-        Ok(next)
+        refusal: Refusal,
+        blocks: Blocks,
+    ) -> io::Result<()> {
+        self.totals.count_refused();
+        self.broken.mark_all(blocks);
+        table::refused(out, refusal)
     }
 
-    // With the receiver's answer to a frame, of which some bytes were repaired or none, and whose packets stand in the list.
-    fn with_answer<W: Write>(
-        self,
+    // A frame is received, of which some bytes were repaired or none: its packets stand in the list.
+    fn take<W: Write>(
+        &mut self,
         out: &mut W,
-        answer: ApplyAnswer,
+        applied: Applied,
         repaired: u8,
-        first: u16,
-        end: u16,
-        list: &[u8],
-    ) -> io::Result<FarEnd> {
-        match answer {
-            ApplyAnswer::Applied {
-                missed,
-                packets,
-                listed,
-                receiver,
-            } => {
-                table::received(out, repaired, missed, packets)?;
-                let before = self.readers;
-                let readers = readers::read_out(
-                    out,
-                    before,
-                    demo_report::front(list, listed),
-                    packets,
-                )?;
-                let next = self.with_mended(repaired, first, end);
-                Ok(next.with_received(receiver, readers, repaired, missed))
-            }
-            ApplyAnswer::Refused(refusal) => self.with_refused(out, refusal, first, end),
+        blocks: Blocks,
+    ) -> io::Result<()> {
+        self.receiver = applied.receiver;
+        self.totals.count_received(repaired, applied.missed);
+        if 0 < repaired {
+            self.mended.mark_all(blocks);
+        }
+        table::received(out, repaired, applied.missed, applied.packets)?;
+        let listed = demo_report::front(&self.list, applied.listed);
+        self.readers.read_out(out, listed, applied.packets)
+    }
+
+    // Opens what arrives of a frame, and applies it.
+    fn receive(&mut self, arrived: &[u8]) -> Result<(Applied, u8), Refusal> {
+        let opened = opening::open(TAPS, arrived, &mut self.area)?;
+        let applied = receiver::apply(
+            opened.header,
+            &self.area,
+            self.receiver,
+            &mut self.hold,
+            &mut self.list,
+        )?;
+        Ok((applied, opened.repaired))
+    }
+
+    // A frame that carries parts of some blocks goes through the beam, and what is left of it is received.
+    pub fn arrive<W: Write>(
+        &mut self,
+        out: &mut W,
+        blocks: Blocks,
+        count: u16,
+        frame: &mut [u8; sizes::FRAME_SIZE],
+    ) -> io::Result<()> {
+        let Some(arrived) = through_beam(count, frame) else {
+            return self.lose(out, blocks);
+        };
+        match self.receive(arrived) {
+            Ok((applied, repaired)) => self.take(out, applied, repaired, blocks),
+            Err(refusal) => self.refuse(out, refusal, blocks),
         }
     }
 
-    pub fn print_totals<W: Write>(self, out: &mut W, put: u16) -> io::Result<()> {
-        let frames = self.totals;
-        let readers = self.readers;
-        let broken = self.broken;
-        let mended = self.mended;
-        let came_out = readers.out;
-        totals::print_frames(out, frames)?;
+    pub fn print_totals<W: Write>(&self, out: &mut W, put: u16) -> io::Result<()> {
+        let readers = &self.readers;
+        totals::print_frames(out, &self.totals)?;
         totals::print_blocks(
             out,
             put,
             readers.recorder.blocks,
             readers.unaltered,
-            ledger::in_both(mended, came_out, put),
+            ledger::in_both(&self.mended, &readers.out, put),
         )?;
-        totals::print_promised(out, ledger::as_promised(broken, came_out, put), put)
+        totals::print_promised(
+            out,
+            ledger::as_promised(&self.broken, &readers.out, put),
+            put,
+        )
     }
 }
 
-// The frame goes through the beam. Answers how many bytes of it arrive: none of one that is lost.
-fn through_beam(count: u16, frame: &mut [u8]) -> usize
-    requires { frame_size ≤ length frame.old }
-{
+// The frame goes through the beam. Answers what arrives of it: nothing of one that is lost.
+fn through_beam(count: u16, frame: &mut [u8; sizes::FRAME_SIZE]) -> Option<&[u8]> {
     match beam::fate_of(beam::shake_at(count)) {
-        Fate::Arrives => sizes::FRAME_SIZE,
+        Fate::Arrives => Some(frame),
         Fate::Damaged => {
             beam::damage(count, frame);
-            beam::arriving(count)
+            Some(&frame[..beam::arriving(count)])
         }
-        Fate::Lost => 0,
+        Fate::Lost => None,
     }
-}
-
-// What the receiver makes of a frame that was opened.
-fn apply<W: Write>(
-    out: &mut W,
-    before: FarEnd,
-    header: Header,
-    repaired: u8,
-    first: u16,
-    end: u16,
-    area: &[u8],
-    hold: &mut [u8],
-    list: &mut [u8],
-) -> io::Result<FarEnd> {
-    let receiver = before.receiver;
-    let answer = receiver::apply(header, area, receiver, hold, list);
-    before.with_answer(out, answer, repaired, first, end, list)
-}
-
-// What the far end makes of the bytes that arrive.
-fn receive<W: Write>(
-    out: &mut W,
-    before: FarEnd,
-    first: u16,
-    end: u16,
-    arrived: &[u8],
-    area: &mut [u8],
-    hold: &mut [u8],
-    list: &mut [u8],
-) -> io::Result<FarEnd> {
-    if arrived.len() == 0 {
-        table::lost(out)?;
-        return Ok(before.with_lost(first, end));
-    }
-    match opening::open(TAPS, arrived, area) {
-        OpenAnswer::Refused(refusal) => before.with_refused(out, refusal, first, end),
-        OpenAnswer::Opened { header, repaired } => {
-            apply(out, before, header, repaired, first, end, area, hold, list)
-        }
-    }
-}
-
-// A frame that carries parts of the blocks from `first` up to the one before `end` goes through the beam, and what is left of it is received.
-pub fn arrive<W: Write>(
-    out: &mut W,
-    before: FarEnd,
-    first: u16,
-    end: u16,
-    count: u16,
-    frame: &mut [u8],
-    area: &mut [u8],
-    hold: &mut [u8],
-    list: &mut [u8],
-) -> io::Result<FarEnd>
-    requires { frame_size ≤ length frame.old }
-{
-    let length = through_beam(count, frame);
-    receive(
-        out,
-        before,
-        first,
-        end,
-        demo_report::front(frame, length),
-        area,
-        hold,
-        list,
-    )
 }

@@ -3,8 +3,6 @@ use demo_report::ledger::Ledger;
 use demo_report::table;
 use demo_scenario::blocks;
 use demo_views::{Recorder, Tuner};
-use list::EntryAnswer;
-use printing::more;
 use std::io;
 use std::io::Write;
 
@@ -27,61 +25,44 @@ impl Readers {
         }
     }
 
-    // With a block that came out.
-    fn with(self, number: u16, is_unaltered: bool) -> Readers {
-        let recorder = self.recorder.with(number);
-        let tuner = self.tuner.with(number);
-        let out = self.out.with(number);
-        Readers {
-            recorder,
-            tuner,
-            out,
-            unaltered: counted(self.unaltered, is_unaltered),
-        }
-    }
-
-    fn with_packet(self, packet: &[u8]) -> Readers {
+    // Reads a packet that came out, and answers which block it is.
+    fn read_packet(&mut self, packet: &[u8]) -> u16 {
         let number = blocks::number_of(packet);
-        self.with(number, blocks::is_block(number, packet))
+        self.recorder = self.recorder.with(number);
+        self.tuner = self.tuner.with(number);
+        self.out.mark(number);
+        if blocks::is_block(number, packet) {
+            self.unaltered = self.unaltered.saturating_add(1);
+        }
+        number
     }
 
     // What they know, told behind a column.
-    fn tell<W: Write>(self, out: &mut W, column: usize) -> io::Result<()> {
-        let recorder = self.recorder;
-        let tuner = self.tuner;
-        table::recorder(out, column, recorder.blocks, recorder.gaps)?;
-        table::tuner(out, tuner.first, tuner.due.wrapping_sub(1))
+    fn tell<W: Write>(&self, out: &mut W, column: usize) -> io::Result<()> {
+        table::recorder(out, column, self.recorder.blocks, self.recorder.gaps)?;
+        table::tuner(out, self.tuner.first, self.tuner.due.wrapping_sub(1))
     }
-}
 
-fn counted(count: u64, is_one_more: bool) -> u64 {
-    if is_one_more { more(count) } else { count }
-}
-
-// Reads the packets of a list, from its beginning on.
-pub fn read_out<W: Write>(
-    out: &mut W,
-    before: Readers,
-    listed: &[u8],
-    packets: usize,
-) -> io::Result<Readers> {
-    let mut readers = before;
-    let mut position: usize = 0;
-    let mut column = table::OUT;
-    let mut left = packets;
-    while 0 < left {
-        let EntryAnswer::Packet { next, .. } = list::entry(listed, position) else {
-            return Ok(readers);
-        };
-        let packet = list::packet(listed, position);
-        let read = readers.with_packet(packet);
-        readers = read;
-        column = table::out(out, column, blocks::number_of(packet))?;
-        position = next;
-        left -= 1;
+    // Reads the packets of a list, from its beginning on.
+    pub fn read_out<W: Write>(
+        &mut self,
+        out: &mut W,
+        listed: &[u8],
+        packets: usize,
+    ) -> io::Result<()> {
+        let mut position = 0;
+        let mut column = table::OUT;
+        for _ in 0..packets {
+            let Ok(Some(place)) = list::entry(listed, position) else {
+                return Ok(());
+            };
+            let number = self.read_packet(list::packet(listed, position));
+            column = table::out(out, column, number)?;
+            position = place.next;
+        }
+        if 0 < packets {
+            self.tell(out, column)?;
+        }
+        Ok(())
     }
-    if 0 < packets {
-        readers.tell(out, column)?;
-    }
-    Ok(readers)
 }
