@@ -1,13 +1,14 @@
 -- The text of a listing (01, the listing program, at the end of "Numbers to try"): its head line, the line of a frame that is accepted, the line of one that is
 -- refused. Text is a list of ASCII codes.
-use Rattle.std.specs.Prelude.{cond, List, [], ◌∷◌, ◌++◌, ℕ, zero, suc, ◌+◌, ◌/◌, ◌%◌, ltb}
+use Rattle.std.specs.Prelude.{cond, Result, Ok, Err, List, [], ◌∷◌, ◌++◌, ℕ, zero, suc, ◌+◌, ◌/◌, ◌%◌, ltb}
 use Prim.Native.Char.{code}
 use Prim.Native.String.{String, [] as empty, ◌∷◌ as ◌then◌}
 use Rattle.header.specs.declared.FrameKind.{FrameKind}
 use Rattle.header.specs.declared.FrameKind.TheVariants.{Idle, Data, Type2, Type3}
 use Rattle.header.specs.declared.Header.{Header}
-use Rattle.receiver.specs.declared.ApplyAnswer.{ApplyAnswer}
-use Rattle.receiver.specs.declared.ApplyAnswer.TheVariants.{Applied, Refused}
+use Rattle.receiver.specs.declared.Applied.{Applied}
+use Rattle.refusals.specs.Numbers.{number_of}
+use Rattle.refusals.specs.declared.Refusal.{Refusal}
 
 -- ---------------------------------------------------------------- words
 
@@ -50,6 +51,6 @@ unfoldable pub refused_line : ℕ → ℕ → List ℕ
 refused_line place number = line (decimal place) (ascii "refused" ∷ decimal number ∷ [])
 
 -- the line of a frame that was opened, by its header and by what applying it answers
-abbrev pub answer_line : ℕ → Header → ApplyAnswer → List ℕ
-answer_line place header (Applied missed packets listed receiver) = accepted_line place header.txfn.0 header.kind missed packets
-answer_line place header (Refused number) = refused_line place number
+abbrev pub answer_line : ℕ → Header → Result Applied Refusal → List ℕ
+answer_line place header (Ok applied) = accepted_line place header.txfn.0 header.kind applied.missed applied.packets
+answer_line place header (Err refusal) = refused_line place (number_of refusal)

@@ -7,7 +7,8 @@ ghost use Rattle.receiver.specs.Applying.{receiver_after};
 ghost use Rattle.listing_lines.specs.Lines.{decimal, kind_word, head_line, accepted_line, refused_line, answer_line};
 
 use header::{FrameKind, Header};
-use receiver::{ApplyAnswer, Receiver};
+use receiver::{Applied, Receiver};
+use refusals::Refusal;
 
 // What stands behind a word.
 const SPACE: u8 = 32;
@@ -37,17 +38,15 @@ fn write_number(out: &mut [u8], at: usize, number: u64, behind: u8) -> usize
     write_word(out, at, &digits[..length], behind)
 }
 
-// The same of a kind.
-fn write_kind(out: &mut [u8], at: usize, kind: FrameKind, behind: u8) -> usize
-    requires { at + 6 ≤ length out.old }
-    ensures value { (result ≡ at + length (kind_word kind) + 1) × (length (kind_word kind) ≤ 5) }
-    ensures out_after { out.new ≡ written out.old at (kind_word kind ++ (behind ∷ [])) }
+fn word_of(kind: FrameKind) -> &'static [u8]
+    ensures word { result.now ≡ kind_word kind }
+    ensures short { length result.now ≤ 5 }
 {
     match kind {
-        FrameKind::Idle => write_word(out, at, b"idle", behind),
-        FrameKind::Data => write_word(out, at, b"data", behind),
-        FrameKind::Type2 => write_word(out, at, b"type2", behind),
-        FrameKind::Type3 => write_word(out, at, b"type3", behind),
+        FrameKind::Idle => b"idle",
+        FrameKind::Data => b"data",
+        FrameKind::Type2 => b"type2",
+        FrameKind::Type3 => b"type3",
     }
 }
 
@@ -76,7 +75,7 @@ fn write_accepted(
 {
     let after_place = write_number(out, 0, place, SPACE);
     let after_txfn = write_number(out, after_place, txfn as u64, SPACE);
-    let after_kind = write_kind(out, after_txfn, kind, SPACE);
+    let after_kind = write_word(out, after_txfn, word_of(kind), SPACE);
     let after_missed = write_number(out, after_kind, missed as u64, SPACE);
     write_number(out, after_missed, packets as u64, NEWLINE)
 }
@@ -93,31 +92,32 @@ pub fn write_refused(out: &mut [u8], place: u64, number: u8) -> usize
 }
 
 // Writes the line of a frame that was opened, by its header and by what applying it answers, and gives its length.
-pub fn write_line(out: &mut [u8], place: u64, header: Header, answer: ApplyAnswer) -> usize
+pub fn write_line(
+    out: &mut [u8],
+    place: u64,
+    header: Header,
+    answer: Result<Applied, Refusal>,
+) -> usize
     requires { 96 ≤ length out.old }
     ensures value { (result ≡ length (answer_line place header answer)) × (result ≤ 96) }
     ensures out_after { out.new ≡ written out.old 0 (answer_line place header answer) }
 {
     match answer {
-        ApplyAnswer::Applied {
-            missed,
-            packets,
-            ..
-        } => {
-            let txfn = header.txfn;
-            let kind = header.kind;
-            write_accepted(out, place, txfn.0, kind, missed, packets)
-        }
-        ApplyAnswer::Refused(number) => write_refused(out, place, number),
+        Ok(applied) => write_accepted(
+            out,
+            place,
+            header.txfn.0,
+            header.kind,
+            applied.missed,
+            applied.packets,
+        ),
+        Err(refusal) => write_refused(out, place, u8::from(refusal)),
     }
 }
 
 // The receiver after a frame: a refusal leaves it as it was.
-pub fn receiver_after(before: Receiver, answer: ApplyAnswer) -> Receiver
+pub fn receiver_after(before: Receiver, answer: Result<Applied, Refusal>) -> Receiver
     ensures { result ≡ receiver_after before answer }
 {
-    match answer {
-        ApplyAnswer::Applied { receiver, .. } => receiver,
-        ApplyAnswer::Refused(_) => before,
-    }
+    answer.map_or(before, |applied| applied.receiver)
 }
