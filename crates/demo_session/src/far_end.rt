@@ -12,6 +12,7 @@ use refusals::Refusal;
 use std::io;
 use std::io::Write;
 
+#[derive(Drop)]
 pub struct FarEnd {
     receiver: Receiver,
     area: [u8; sizes::AREA_SIZE],

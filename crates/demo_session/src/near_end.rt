@@ -11,6 +11,7 @@ use sender::Sender;
 use std::io;
 use std::io::Write;
 
+#[derive(Drop)]
 pub struct NearEnd {
     sender: Sender,
     queue: [u8; sizes::QUEUE_SIZE],
@@ -56,8 +57,10 @@ impl NearEnd {
 
     // The number of the first block of which not all is sent.
     fn first_waiting(&self) -> u16 {
-        sender::waiting(&self.queue, self.sender)
-            .map_or(self.put, |waiting| first_of(self.put, waiting.packets))
+        sender::waiting(&self.queue, self.sender).map_or(
+            self.put,
+            |waiting| first_of(self.put, waiting.packets),
+        )
     }
 
     // The number behind the last block of which all is sent, or a part: a part of the first that waits is, where fewer bytes wait than those blocks have.
@@ -123,7 +126,9 @@ fn first_of(put: u16, packets: usize) -> u16 {
 
 // How many bytes the blocks have from one number up to the one before another.
 fn length_of_all(first: u16, end: u16) -> usize {
-    (first..end).map(|number| blocks::length_of(number)).sum()
+    (first..end)
+        .map(blocks::length_of)
+        .fold(0, usize::wrapping_add)
 }
 
 // Of each frame: no acknowledgement, no time and no message.

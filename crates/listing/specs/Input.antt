@@ -1,17 +1,13 @@
--- What a read's answer means, and how much was read of a frame.
-use Rattle.std.specs.Prelude.{◌≡◌, ◌≤◌, ℕ, zero, suc, List, length, take, ℤ, pos, negsuc}
-use Rattle.listing.specs.declared.input.Read.{Read}
-use Rattle.listing.specs.declared.input.Read.TheVariants.{Failed, Ended, Bytes as ReadBytes}
-use Rattle.listing.specs.declared.input.Piece.{Piece}
-use Rattle.listing.specs.declared.input.Piece.TheVariants.{NotRead, Bytes as PieceBytes}
-
--- a read's answer (POSIX): below 0 it has failed, at 0 the input has ended, and above 0 that many bytes were read
-abbrev pub meaning_of : ℤ → Read
-meaning_of (negsuc k) = Failed
-meaning_of (pos zero) = Ended
-meaning_of (pos (suc k)) = ReadBytes (suc k)
+-- How much was read of a frame.
+use Rattle.std.specs.Prelude.{◌≡◌, ◌≤◌, ◌<◌, ℕ, List, Option, Result, Ok, Err, length, take}
+use Rattle.std.specs.Io.KnownBytes.{IsAtEnd}
 
 -- what was read stands at the start of the frame, and is no longer than it; the second part follows from the first, and spares callers its proof
-abbrev pub Within : Piece → List ℕ → Type 0
-Within NotRead frame = Unit {0}
-Within (PieceBytes n) frame = (n ≤ length frame) × (n ≡ length (take n frame))
+abbrev pub Within : {E : Type 0} → Result ℕ E → List ℕ → Type 0
+Within (Err error) frame = Unit {0}
+Within (Ok n) frame = (n ≤ length frame) × (n ≡ length (take n frame))
+
+-- less than a frame was read only where the input has ended, which is so where a read brings nothing; of what is left of it
+abbrev pub EndsShort : {E : Type 0} → Result ℕ E → List ℕ → Option (List ℕ) → Type 0
+EndsShort (Err error) frame left = Unit {0}
+EndsShort (Ok n) frame left = n < length frame → IsAtEnd left

@@ -1,5 +1,6 @@
 -- Five words, each behind the one before (`next_word`), are the line (`accepted_words`); the bounds on the words' lengths leave room for all in 96 bytes.
 use Rattle.std.proofs.Common.{arith}
+use Rattle.listing_lines.specs.Lines.{accepted_line}
 use Rattle.listing_lines.proofs.Parts.{first_word, next_word, accepted_words, whole_line}
 use Rattle.listing_lines.proofs.write_accepted.Goals as goal
 
@@ -16,6 +17,7 @@ returns c =
     let word3 = next_word out _ 32 _ _ _ _ _ word2 (omega arith) kind.out_after kind.value in
     let word4 = next_word out _ 32 _ _ _ _ _ word3 (omega arith) missed.out_after missed.value.0 in
     let word5 = next_word out _ 10 _ _ _ _ _ word4 (omega arith) packets.out_after packets.value.0 in
+    let line = accepted_line c.args.place c.args.txfn c.args.kind c.args.missed c.args.packets in
     let words = accepted_words c.args.place c.args.txfn c.args.kind c.args.missed c.args.packets in
-    let line = whole_line out _ _ _ _ word5 words in
-    record { value = (line.0, omega arith); out_after = line.1 }
+    let whole = whole_line out _ line _ _ word5 (rw c.word_of.ensures.word words) in
+    record { value = (whole.0, omega arith); out_after = whole.1 }
