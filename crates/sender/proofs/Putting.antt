@@ -1,8 +1,8 @@
 -- What a put that is not refused may lean on; any two outcomes of `put` are equal; and what putting does to the queue that the bytes stand for (demand 3).
 use mathlib.Core.Path.{◌≡◌, refl, sym, ap, ◌∙◌}
-use mathlib.Core.Bool.{Bool, true, false, false≢true, cond, ◌||◌}
+use mathlib.Core.Bool.{Bool, true, false, false≢true, ◌||◌}
 use mathlib.Core.Logic.{◌⊎◌, inl, inr, ⊎_elim}
-use mathlib.Core.List.{List, [], ◌++◌}
+use mathlib.Core.List.{List, [], ◌∷◌, ◌++◌}
 use Prim.Native.Nat.{ℕ, ◌+◌, ◌%◌, ◌≤◌, ◌<◌}
 use native.Mathlib.Omega.{arith}
 use lib.Dec.{eqb}
@@ -11,7 +11,11 @@ use borrow.Author.Tests.{eqb-true, eqb-false, ltb-false}
 use Rattle.basics.specs.Lists.{Bytes}
 use Rattle.basics.specs.Numbers.{above}
 use Rattle.basics.proofs.Lists.{bytes_take}
-use Rattle.refusals.specs.Table.{◌when◌, by}
+use Rattle.std.specs.Prelude.{Result, Ok, Err}
+use Rattle.refusals.specs.Numbers.{answer_by, judged_by}
+use Rattle.refusals.specs.Table.{Row, ◌when◌, first_of}
+use Rattle.refusals.specs.declared.Refusal.{Refusal}
+use Rattle.refusals.proofs.Numbers.{passed, answered}
 use Rattle.lent.specs.Written.{written}
 use Rattle.refusals.proofs.Table.{unless_passed, row_passed, accepted}
 use Rattle.lent.proofs.Written.{take_written}
@@ -26,8 +30,9 @@ use Rattle.ring.proofs.Places.{round_keeps}
 use Rattle.marks.specs.Queue.{used_in, is_ring_whole}
 use Rattle.marks.proofs.Used.{ring_passed}
 use Rattle.sender.specs.declared.Sender.{Sender}
-use Rattle.sender.specs.declared.PutAnswer.TheVariants.{Taken, Refused}
 use Rattle.sender.specs.Put.{put_refusal, put_sender, put_bytes, PutOutcome}
+use Rattle.sender.specs.Waiting.{waiting_refusal}
+use Rattle.sender.proofs.Judging.{ring_refused, ring_taken}
 use Rattle.sender.proofs.Stands.{Stands}
 
 pub record PutPassed (queue : List ℕ) (start used : ℕ) (packet : List ℕ) : Type 0 where
@@ -58,6 +63,26 @@ put_passed queue start used packet e =
       room = ltb-false 32768 (used + 2 + n) room.0;
     }
 
+-- ---- what the judge of `put` answers
+
+-- where the ring is not refused the packet decides
+abbrev own_rows : ℕ → List ℕ → List Row
+own_rows used packet = 4 when (eqb (length packet) 0 || above (length packet) 9000) ∷ 5 when above (used + 2 + length packet) 32768 ∷ []
+
+module _ (queue : List ℕ) (start used : ℕ) (packet : List ℕ) where
+  pub ring_first : {refusal : Refusal} → Err refusal ≡ judged_by (waiting_refusal queue start used)
+      → Err refusal ≡ judged_by (put_refusal queue start used packet)
+  unfolding put_refusal
+  ring_first e = ring_refused queue start used (own_rows used packet) e
+
+  pub packet_then : {given : Unit {0}} → Ok given ≡ judged_by (waiting_refusal queue start used)
+      → put_refusal queue start used packet ≡ first_of (own_rows used packet)
+  unfolding put_refusal
+  packet_then e = ring_taken queue start used (own_rows used packet) e
+
+  pub put_judged : {given : Unit {0}} → Ok given ≡ judged_by (put_refusal queue start used packet) → PutPassed queue start used packet
+  put_judged e = put_passed queue start used packet (passed _ _ _ e)
+
 -- the mark is written, then the packet
 pub put_written : {queue : List ℕ} {start used : ℕ} {packet : List ℕ} → PutPassed queue start used packet
     → ring_written (ring_written queue start used (marked (length packet) [])) start (used + 2) packet ≡ put_bytes queue start used packet
@@ -67,17 +92,15 @@ put_written {queue} {start} {used} {packet} p =
 -- ---- demand 3
 
 -- the answer tells that the packet was taken
-pub taken_zero : (n : ℕ) (after sender : Sender) → Taken after ≡ by n (Taken sender) (Refused n) → (n ≡ 0) × (after ≡ sender)
-unfolding by
-taken_zero n after sender = go (eqb n 0) refl
-  where
-    go : (test : Bool) → eqb n 0 ≡ test → Taken after ≡ cond test (Taken sender) (Refused n) → (n ≡ 0) × (after ≡ sender)
-    go true t e = (eqb-true n 0 t, cc)
-    go false t e = let z : ◌≡◌ {A = ℕ} 0 1 = cc in absurd (omega arith)
+pub taken_zero : (n : ℕ) (after sender : Sender) → Ok after ≡ answer_by n sender → (n ≡ 0) × (after ≡ sender)
+taken_zero n after sender e =
+    let none = passed n after sender e in
+    let same : ◌≡◌ {A = Result Sender Refusal} (Ok after) (Ok sender) = e ∙ sym (answered n sender sender none refl) in
+    (none, cc)
 
 -- Every byte that is not behind the used ones, as far as mark and packet reach, keeps its value.
 pub put_keeps : (bytes : List ℕ) (sender : Sender) (packet : List ℕ) (sender' : Sender) (bytes' : List ℕ)
-    → PutOutcome bytes sender packet (Taken sender') bytes'
+    → PutOutcome bytes sender packet (Ok sender') bytes'
     → (i : ℕ) → i < 32768 → (i < sender.used) ⊎ (sender'.used ≤ i) → get_or bytes' ((sender.start + i) % 32768) 0 ≡ get_or bytes ((sender.start + i) % 32768) 0
 put_keeps bytes sender packet sender' bytes' outcome i l outside =
     let start = sender.start in
@@ -93,7 +116,7 @@ put_keeps bytes sender packet sender' bytes' outcome i l outside =
 
 -- What is taken is a packet, and stands behind the others.
 pub put_stands : (bytes : List ℕ) (sender : Sender) (packet : List ℕ) (sender' : Sender) (bytes' : List ℕ) (i : ℕ) (queue : Queue)
-    → PutOutcome bytes sender packet (Taken sender') bytes' → Bytes packet → Stands bytes sender i queue
+    → PutOutcome bytes sender packet (Ok sender') bytes' → Bytes packet → Stands bytes sender i queue
     → IsPacket packet × Stands bytes' sender' i (with_packet queue packet)
 put_stands bytes sender packet sender' bytes' i queue outcome p s =
     let start = sender.start in

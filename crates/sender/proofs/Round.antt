@@ -2,9 +2,10 @@
 use mathlib.Core.Path.{◌≡◌, refl, sym, ap, ◌∙◌}
 use mathlib.Core.Bool.{Bool, true, false}
 use mathlib.Core.List.{List}
-use Prim.Native.Nat.{ℕ, ◌+◌, ◌-◌, ◌%◌, ◌≤◌, ◌<◌}
+use Prim.Native.Nat.{ℕ, ◌+◌, ◌-◌, ◌%◌, ◌≤◌, ◌<◌, min}
 use native.Mathlib.Omega.{arith}
-use lib.Dec.{ltb}
+use lib.Dec.{eqb, ltb}
+use borrow.Author.Tests.{eq-eqb, ne_eqb}
 use lib.ListN.{length, take, drop}
 use lib.Seq.{take-take}
 use Rattle.basics.specs.Lists.{zeros, Bytes}
@@ -18,6 +19,7 @@ use Rattle.ring.specs.Ring.{round_from}
 use Rattle.ring.proofs.Laws.{round_length, round_bytes}
 use Rattle.marks.specs.Queue.{used_in}
 use Rattle.marks.proofs.Used.{used_length, used_mark}
+use Rattle.std.specs.Prelude.{Some, None}
 use Rattle.sender.specs.Filling.{FillOutcome}
 use Rattle.sender.proofs.Taking as taking
 use Rattle.sender.proofs.Taking.{Filling, Reached}
@@ -42,14 +44,14 @@ module _ {queue : List ℕ} {start used : ℕ} {area : List ℕ} {at from : ℕ}
   long : length bytes ≡ used
   long = used_length queue start used i.inside
 
-  pub ends : used ≤ from → FillOutcome bytes (record { stop = from; unsent = 0 }) area
+  pub ends : used ≤ from → FillOutcome bytes (record { stop = from; unsent = None }) area
   ends l = taking.ends i.filling (omega (arith, long))
 
   module _ (l : from < used) where
     before_end : from < length bytes
     before_end = omega (arith, long)
 
-    pub full : 1908 - at < 3 → FillOutcome bytes (record { stop = from; unsent = 0 }) area
+    pub full : 1908 - at < 3 → FillOutcome bytes (record { stop = from; unsent = None }) area
     full = taking.full i.filling before_end
 
     -- a mark stands here
@@ -78,13 +80,20 @@ module _ {queue : List ℕ} {start used : ℕ} {area : List ℕ} {at from : ℕ}
           ∙ take-take n (used - (from + 2)) (drop (from + 2) round) (omega arith) in
           w ∙ ap (λ (content : List ℕ). written area at (record_bytes (record { first = ltb mark 32768; last = last; bytes = content }))) (sym part)
 
-      pub goes_on : {area' : List ℕ} → 3 ≤ 1908 - at → 2 + mark % 32768 ≤ 1908 - at
-          → area' ≡ written area at (record_bytes (piece_of true (mark % 32768) (round_from start queue)))
-          → Round queue start used area' (at + 2 + mark % 32768) (from + 2 + mark % 32768)
-      goes_on r s w =
-          record { inside = i.inside; filling = taking.goes_on i.filling before_end is_mark_lem r s (wrote true (mark % 32768) reached.room w) }
+      -- a record of n bytes is written: of the whole packet, or of as many as there is room for
+      module _ (r : 3 ≤ 1908 - at) {n : ℕ} (m : n ≡ min (mark % 32768) (1908 - at - 2)) {area' : List ℕ}
+          (w : area' ≡ written area at (record_bytes (piece_of (eqb n (mark % 32768)) n (round_from start queue)))) where
+        pub goes_on : mark % 32768 ≤ n → Round queue start used area' (at + 2 + n) (from + 2 + n)
+        goes_on all =
+            let same : n ≡ mark % 32768 = omega arith in
+            let whole = rw (eq-eqb n (mark % 32768) same, same) at w in
+            rw same (record {
+              inside = i.inside;
+              filling = taking.goes_on i.filling before_end is_mark_lem r (omega arith) (wrote true (mark % 32768) reached.room whole);
+            })
 
-      pub cuts : {area' : List ℕ} → 3 ≤ 1908 - at → 1908 - at < 2 + mark % 32768
-          → area' ≡ written area at (record_bytes (piece_of false (1908 - at - 2) (round_from start queue)))
-          → FillOutcome bytes (record { stop = from + 2 + (1908 - at - 2); unsent = mark % 32768 - (1908 - at - 2) }) area'
-      cuts r s w = taking.cuts i.filling before_end is_mark_lem r s (wrote false (1908 - at - 2) (omega (arith, reached.room)) w)
+        pub cuts : n < mark % 32768 → FillOutcome bytes (record { stop = from + 2 + n; unsent = Some (mark % 32768 - n) }) area'
+        cuts some_bytes =
+            let same : n ≡ 1908 - at - 2 = omega arith in
+            let part = rw (ne_eqb n (mark % 32768) (λ z. omega arith), same) at w in
+            rw same (taking.cuts i.filling before_end is_mark_lem r (omega arith) (wrote false (1908 - at - 2) (omega (arith, reached.room)) part))

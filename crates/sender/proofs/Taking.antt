@@ -8,7 +8,7 @@ use native.Mathlib.Omega.{arith}
 use lib.Dec.{ltb}
 use lib.ListN.{length, take, drop, length-drop, take-append-drop, drop_of_length-le, replicate-append-replicate}
 use lib.Seq.{drop-drop, drop_at, length-take-le, take-length, drop-length}
-use borrow.Author.Tests.{ne_eqb, le-leb, lt-leb}
+use borrow.Author.Tests.{le-leb, lt-leb}
 use Rattle.basics.specs.Lists.{zeros, Bytes}
 use Rattle.basics.proofs.Lists.{zeros_length}
 use Rattle.lent.specs.Written.{written}
@@ -22,7 +22,8 @@ use Rattle.packing.specs.Rules.{record_bytes, records_bytes}
 use Rattle.packing.specs.Filling.{fill}
 use Rattle.marks.specs.Queue.{queue_in}
 use Rattle.marks.proofs.Parsed.{whole_parsed}
-use Rattle.sender.specs.Filling.{remaining, FillOutcome}
+use Rattle.std.specs.Prelude.{Some, None}
+use Rattle.sender.specs.Filling.{FillOutcome}
 use Rattle.sender.proofs.Front.{Front, front, nothing, inside, length_is, first_is, part, behind}
 
 -- the loop's invariant
@@ -52,14 +53,6 @@ begins bytes after b w e =
       records = refl;
       left = refl;
     }
-
-pub remaining_none : (bytes : List ℕ) → remaining 0 bytes ≡ bytes
-unfolding remaining
-remaining_none bytes = refl
-
-pub remaining_some : (unsent : ℕ) (bytes : List ℕ) → (unsent ≡ 0 → ⊥) → remaining unsent bytes ≡ marked (32768 + unsent) bytes
-unfolding remaining
-remaining_some unsent bytes h = rw (ne_eqb unsent 0 h)
 
 -- an area that holds records and zeros behind them
 laid : (after records : List ℕ) (at : ℕ) → records ≡ take at after → at ≤ 1908 → length after ≡ 1908 → drop at after ≡ zeros (1908 - at)
@@ -104,24 +97,23 @@ module _ (after : List ℕ) (at : ℕ) (piece : Piece) {after' : List ℕ} (e : 
 
 module _ {bytes after : List ℕ} {at from : ℕ} (i : Filling bytes after at from) where
   -- nothing more is filled in
-  stops : fill (1908 - at) i.queue ≡ cut_nothing i.queue.rest i.queue.waiting → FillOutcome bytes (record { stop = from; unsent = 0 }) after
+  stops : fill (1908 - at) i.queue ≡ cut_nothing i.queue.rest i.queue.waiting → FillOutcome bytes (record { stop = from; unsent = None }) after
   stops e = record {
     filled = laid after (records_bytes (fill 1908 (queue_in bytes)).pieces) at
         (i.records ∙ ap (λ (c : Cut). take at after ++ records_bytes c.pieces) e ∙ append-nil (take at after)) i.low i.long i.clear;
-    rest = ap layout (i.left ∙ ap (λ (c : Cut). c.left) e) ∙ i.here ∙ sym (remaining_none (drop from bytes));
+    rest = ap layout (i.left ∙ ap (λ (c : Cut). c.left) e) ∙ i.here;
     inside = i.within;
-    most = omega arith;
-    behind = λ z. absurd (z refl);
+    cut = tt;
   }
 
-  pub ends : length bytes ≤ from → FillOutcome bytes (record { stop = from; unsent = 0 }) after
+  pub ends : length bytes ≤ from → FillOutcome bytes (record { stop = from; unsent = None }) after
   ends l = stops (nothing (1908 - at) i.queue (ap length i.here ∙ length-drop from bytes ∙ omega arith))
 
   module _ (l : from < length bytes) where
     pub the_front : Front i.queue
     the_front = front i.queue i.is_queue (omega (arith, ap length i.here, length-drop from bytes))
 
-    pub full : 1908 - at < 3 → FillOutcome bytes (record { stop = from; unsent = 0 }) after
+    pub full : 1908 - at < 3 → FillOutcome bytes (record { stop = from; unsent = None }) after
     full s = stops (the_front.fills (1908 - at) ∙ rw (lt-leb 3 (1908 - at) s))
 
     -- the numbers of the front packet, by its mark
@@ -188,7 +180,7 @@ module _ {bytes after : List ℕ} {at from : ℕ} (i : Filling bytes after at fr
       -- a packet that does not fit: as much as fits is written, which fills the area
       pub cuts : {after' : List ℕ} → 1908 - at < 2 + mark % 32768
           → after' ≡ written after at (record_bytes (as_written false (1908 - at - 2)))
-          → FillOutcome bytes (record { stop = from + 2 + (1908 - at - 2); unsent = mark % 32768 - (1908 - at - 2) }) after'
+          → FillOutcome bytes (record { stop = from + 2 + (1908 - at - 2); unsent = Some (mark % 32768 - (1908 - at - 2)) }) after'
       unfolding layout
       cuts {after'} s w =
           let k = 1908 - at - 2 in
@@ -212,9 +204,7 @@ module _ {bytes after : List ℕ} {at from : ℕ} (i : Filling bytes after at fr
                 (drop_of_length-le after' {i = 1908} (omega arith));
             rest = ap layout (i.left ∙ ap (λ (c : Cut). c.left) filled)
                 ∙ ap (λ (m : ℕ). marked (32768 + m) (drop k f.bytes ++ layout_packets f.packets)) unsent
-                ∙ ap (marked (32768 + (mark % 32768 - k))) (sym (behind bytes from i.here f k (omega (arith, n_is))))
-                ∙ sym (remaining_some (mark % 32768 - k) (drop (from + 2 + k) bytes) (λ z. omega arith));
+                ∙ ap (marked (32768 + (mark % 32768 - k))) (sym (behind bytes from i.here f k (omega (arith, n_is))));
             inside = omega (arith, n_is, inside bytes from i.here f);
-            most = omega (arith, n_is, f.high);
-            behind = λ z. omega arith;
+            cut = (omega (arith, n_is, f.high), omega arith);
           }

@@ -11,7 +11,7 @@ use Rattle.sender.specs.declared.filling.Filled.{Filled}
 use Rattle.sender.specs.declared.Sender.{Sender}
 
 -- what remains: bytes from a mark on; or those of a packet that was cut, with this many unsent, and then its new mark stands before them
-unfoldable pub remaining : Option ℕ → List ℕ → List ℕ
+abbrev pub remaining : Option ℕ → List ℕ → List ℕ
 remaining None bytes = bytes
 remaining (Some unsent) bytes = marked (begun_bit + unsent) bytes
 
@@ -21,8 +21,9 @@ pub record FillOutcome (bytes : List ℕ) (r : Filled) (after : List ℕ) : Type
   pub inside : r.stop ≤ length bytes
   pub cut : IfSome r.unsent (λ unsent. (unsent ≤ most_held) × (2 ≤ r.stop))
 
--- this rest of the used bytes remains, and the ring holds it from its new start on
+-- this rest of the used bytes remains, and the ring holds it from its new start on; the next frame's number stays
 pub record Freed (queue : List ℕ) (sender : Sender) (rest : List ℕ) (r : Sender) (after : List ℕ) : Type 0 where
   pub count : r.used ≡ length rest
   pub begins : r.start ≡ start_after sender.start sender.used (length rest)
+  pub number : r.next ≡ sender.next
   pub bytes : after ≡ ring_written queue (start_after sender.start sender.used (length rest)) 0 rest

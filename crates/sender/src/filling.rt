@@ -11,6 +11,7 @@ ghost use Rattle.sender.specs.Filling.{FillOutcome, remaining, Freed};
 
 use crate::Sender;
 use basics::sizes;
+use packing::Record;
 
 // Where filling stopped in the used bytes; and of a packet that it cut, how many bytes are unsent.
 #[derive(Clone, Copy)]
@@ -25,31 +26,32 @@ pub fn fill(queue: &[u8], sender: Sender, area: &mut [u8]) -> Filled
         × (is_whole (used_in queue.now sender.start sender.used) ≡ true) × (area.old ≡ zeros area_size) }
     ensures { FillOutcome (used_in queue.now sender.start sender.used) result area.new }
 {
-    let mut at: usize = 0;
-    let mut from: usize = 0;
-    // From mark to mark, so that no index is counted.
+    let mut at = 0;
+    let mut from = 0;
+    // From mark to mark: no index is counted.
     while from < sender.used {
         let room = sizes::AREA_SIZE - at;
         if room < 3 {
             break;
         }
         let mark = marks::mark_round(queue, sender.start, from);
-        let first = mark < sizes::BEGUN_BIT;
-        let length = mark % sizes::BEGUN_BIT;
-        let behind = from + 2;
-        if room < 2 + length {
-            let fitting = room - 2;
-            let record = Record { first, last: false, from: behind, length: fitting };
-            write_record(area, at, record, queue, sender.start);
+        let waiting = mark % sizes::BEGUN_BIT;
+        let length = waiting.min(room - 2);
+        let record = Record {
+            first: mark < sizes::BEGUN_BIT,
+            last: length == waiting,
+            start: from + 2,
+            length,
+        };
+        write_record(area, at, record, queue, sender.start);
+        from = from + 2 + length;
+        if length < waiting {
             return Filled {
-                stop: behind + fitting,
-                unsent: Some(length - fitting),
+                stop: from,
+                unsent: Some(waiting - length),
             };
         }
-        let record = Record { first, last: true, from: behind, length };
-        write_record(area, at, record, queue, sender.start);
         at = at + 2 + length;
-        from = behind + length;
     }
     Filled {
         stop: from,
@@ -57,25 +59,21 @@ pub fn fill(queue: &[u8], sender: Sender, area: &mut [u8]) -> Filled
     }
 }
 
-// A record to write: the bits of its mark, and which bytes behind the ring's start are its own.
-#[derive(Clone, Copy)]
-struct Record {
-    first: bool,
-    last: bool,
-    from: usize,
-    length: usize,
-}
-
-// Writes a record into the area: its mark, and its bytes off the ring.
-fn write_record(area: &mut [u8], at: usize, record: Record, queue: &[u8], start: usize)
-    requires { (at + 2 + record.length ≤ length area.old) × (record.length < 2048) × (start ≤ length queue.now)
-        × (record.from + record.length ≤ length queue.now) }
+// Writes a record into the area: its mark, and its bytes, which stand `start` bytes behind the ring's start.
+fn write_record(area: &mut [u8], at: usize, piece: Record, queue: &[u8], start: usize)
+    requires { (at + 2 + piece.length ≤ length area.old) × (piece.length < 2048) × (start ≤ length queue.now)
+        × (piece.start + piece.length ≤ length queue.now) }
     ensures { area.new ≡ written area.old at (record_bytes (record {
-        first = record.first; last = record.last; bytes = take record.length (drop record.from (round_from start queue.now)) })) }
+      first = piece.first;
+      last = piece.last;
+      bytes = take piece.length (drop piece.start (round_from start queue.now));
+    })) }
 {
-    let mark = value_of(record.first, sizes::FIRST_BIT) + value_of(record.last, sizes::LAST_BIT) + record.length;
+    let mark = value_of(piece.first, sizes::FIRST_BIT)
+        + value_of(piece.last, sizes::LAST_BIT)
+        + piece.length;
     lent::write_at(area, at, &marks::bytes_of(mark));
-    ring::copy_out(queue, start, record.from, record.length, area, at + 2);
+    ring::copy_out(queue, start, piece.start, piece.length, area, at + 2);
 }
 
 // A mark's bit, as a number.
@@ -91,8 +89,7 @@ fn value_of(set: bool, value: usize) -> usize
 pub fn free_front(queue: &mut [u8], sender: Sender, filled: Filled) -> Sender
     requires { (length queue.old ≡ queue_size) × (sender.start < queue_size) × (sender.used ≤ queue_size) × (filled.stop ≤ sender.used)
         × IfSome filled.unsent (λ unsent. (unsent ≤ most_held) × (2 ≤ filled.stop)) }
-    ensures freed { Freed queue.old sender (remaining filled.unsent (drop filled.stop (used_in queue.old sender.start sender.used))) result queue.new }
-    ensures next { result.next ≡ sender.next }
+    ensures { Freed queue.old sender (remaining filled.unsent (drop filled.stop (used_in queue.old sender.start sender.used))) result queue.new }
 {
     match filled.unsent {
         None => Sender {
@@ -102,7 +99,8 @@ pub fn free_front(queue: &mut [u8], sender: Sender, filled: Filled) -> Sender
         },
         Some(unsent) => {
             let start = (sender.start + (filled.stop - 2)) % sizes::QUEUE_SIZE;
-            ring::write_at(queue, start, 0, &marks::bytes_of(sizes::BEGUN_BIT + unsent));
+            let mark = marks::bytes_of(sizes::BEGUN_BIT + unsent);
+            ring::write_at(queue, start, 0, &mark);
             Sender {
                 start,
                 used: sender.used - filled.stop + 2,

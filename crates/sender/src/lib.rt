@@ -32,26 +32,27 @@ impl Sender {
             next: Txfn(0),
         }
     }
-}
 
-// Refusals: 2, 3.
-fn judge_ring(queue: &[u8], sender: Sender) -> Result<(), Refusal>
-    ensures { result ≡ judged_by (waiting_refusal queue.now sender.start sender.used) }
-{
-    if queue.len() != sizes::QUEUE_SIZE {
-        return Err(Refusal::Size);
+    // Judges the ring, as each call on it does. Refusals: 2, 3.
+    #[tactic(auto, unfolding(crate::specs::Waiting::waiting_refusal, refusals::specs::Table::first_of, refusals::specs::Table::by, refusals::specs::Numbers::refusal_of))]
+    pub fn judge(self, queue: &[u8]) -> Result<(), Refusal>
+        ensures { result ≡ judged_by (waiting_refusal queue.now self.start self.used) }
+    {
+        if queue.len() != sizes::QUEUE_SIZE {
+            return Err(Refusal::Size);
+        }
+        if !marks::is_ring_whole(queue, self.start, self.used) {
+            return Err(Refusal::State);
+        }
+        Ok(())
     }
-    if !marks::is_ring_whole(queue, sender.start, sender.used) {
-        return Err(Refusal::State);
-    }
-    Ok(())
 }
 
 // Refusals: 2, 3, 4, 5.
 fn judge_put(queue: &[u8], sender: Sender, packet: &[u8]) -> Result<(), Refusal>
     ensures { result ≡ judged_by (put_refusal queue.now sender.start sender.used packet.now) }
 {
-    judge_ring(queue, sender)?;
+    sender.judge(queue)?;
     if packet.is_empty() || sizes::MOST_PACKET < packet.len() {
         return Err(Refusal::PacketLength);
     }
@@ -62,7 +63,7 @@ fn judge_put(queue: &[u8], sender: Sender, packet: &[u8]) -> Result<(), Refusal>
 }
 
 // Puts a packet behind those that wait, and touches nothing else. Refusals: 2, 3, 4, 5.
-#[tactic(auto, using(crate::proofs::Putting::put_passed))]
+#[tactic(auto, using(crate::proofs::Putting::put_judged))]
 pub fn put(queue: &mut [u8], sender: Sender, packet: &[u8]) -> Result<Sender, Refusal>
     ensures { PutOutcome queue.old sender packet.now result queue.new }
 {
@@ -85,11 +86,11 @@ pub struct Counted {
 }
 
 // How much waits in the ring. Two bytes of what is used are each packet's mark. Refusals: 2, 3.
-#[tactic(auto, using(marks::proofs::Counting::used_counted))]
+#[tactic(auto, using(crate::proofs::Judging::ring_judged, marks::proofs::Counting::used_counted))]
 pub fn waiting(queue: &[u8], sender: Sender) -> Result<Counted, Refusal>
     ensures { WaitingOutcome queue.now sender result }
 {
-    judge_ring(queue, sender)?;
+    sender.judge(queue)?; // only a whole ring's marks can be counted
     let packets = marks::packets_waiting(queue, sender.start, sender.used);
     Ok(Counted {
         packets,

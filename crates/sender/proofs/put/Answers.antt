@@ -1,28 +1,27 @@
 -- A refusal leaves the ring; otherwise mark and packet are written one behind the other (`put_written`).
-use mathlib.Core.Path.{refl, sym, ap, ◌∙◌}
-use mathlib.Core.List.{List}
-use Prim.Native.Nat.{ℕ, ◌+◌}
-use Rattle.refusals.proofs.Table.{refused, kept, accepted}
+use Rattle.std.proofs.Common.{◌≡◌, Err, rules, refl, sym, ap, ◌∙◌, List, ℕ, ◌+◌}
+use Rattle.refusals.proofs.Numbers.{passed, refused, kept, answered, stands}
 use Rattle.ring.specs.Ring.{ring_written}
-use Rattle.sender.specs.declared.PutAnswer.TheVariants.{Refused}
-use Rattle.sender.proofs.Putting.{put_passed, put_written}
+use Rattle.sender.proofs.Putting.{put_judged, put_written}
 use Rattle.sender.proofs.put.Goals as goal
 
-pub returns-then-number-ne0 : goal.returns-then-number-ne0
-returns-then-number-ne0 c =
-    let number = c.put_refusal-number.ensures in
-    record { answer = refused _ _ _ (λ n. Refused n) number c.if-number-ne0.true; bytes = kept _ _ _ _ number c.if-number-ne0.true }
+pub returns-in_err-judge_put : goal.returns-in_err-judge_put
+returns-in_err-judge_put c =
+    let judged = sym c.in_err-judge_put.was ∙ c.judge_put.ensures in
+    let same : c.from_residual.result ≡ Err c.in_err-judge_put.field-0.0 = search rules in
+    record { answer = same ∙ refused _ _ _ _ judged; bytes = kept _ _ _ _ _ judged }
 
 pub returns : goal.returns
 returns c =
     let given = c.args in
-    let p = put_passed given.queue.now given.sender.start given.sender.used given.packet.now (sym c.put_refusal-number.ensures ∙ c.if-number-ne0.false) in
-    let number = c.put_refusal-number.ensures in
     let start = given.sender.start in
     let used = given.sender.used in
+    let judged = sym c.in_ok-judge_put.was ∙ c.judge_put.ensures in
+    let none = passed _ _ _ judged in
     let mark = c.write_at.ensures ∙ ap (ring_written given.queue.now start used) c.bytes_of-mark.ensures in
     record {
-      answer = accepted _ _ _ _ _ number c.if-number-ne0.false refl;
-      bytes = accepted _ _ _ _ _ number c.if-number-ne0.false
-          (c.write_at-2.ensures ∙ ap (λ (l : List ℕ). ring_written l start (used + 2) given.packet.now) mark ∙ put_written p);
+      answer = answered _ _ _ none refl;
+      bytes = stands _ _ _ _ none
+          (c.write_at-2.ensures ∙ ap (λ (l : List ℕ). ring_written l start (used + 2) given.packet.now) mark
+          ∙ put_written (put_judged _ _ _ _ judged));
     }

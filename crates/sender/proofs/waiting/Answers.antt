@@ -1,30 +1,28 @@
 -- A refusal, or the packets counted and the used bytes without their marks (`used_counted`).
-use mathlib.Core.Path.{◌≡◌, sym, ap₂, ◌∙◌}
-use Prim.Native.Nat.{ℕ, ◌-◌, ◌*◌}
-use native.Mathlib.Omega.{arith}
+use Rattle.std.proofs.Common.{◌≡◌, Err, rules, sym, ap₂, ◌∙◌, ◌-◌, ◌*◌, arith}
+use Rattle.refusals.proofs.Numbers.{passed, refused, answered}
 use Rattle.marks.specs.Queue.{waiting_in, byte_count}
 use Rattle.marks.proofs.Counting.{used_counted}
-use Rattle.sender.specs.declared.WaitingAnswer.TheVariants.{Waiting}
-use Rattle.sender.proofs.Counts.{other_length, not_whole, whole_counted}
+use Rattle.sender.specs.Waiting.{waiting_answer}
+use Rattle.sender.proofs.Judging.{ring_judged}
+use Rattle.sender.proofs.Counts.{counts}
 use Rattle.sender.proofs.waiting.Goals as goal
 
-pub returns-then-queue-ne-QUEUE_SIZE : goal.returns-then-queue-ne-QUEUE_SIZE
-returns-then-queue-ne-QUEUE_SIZE c =
-    let given = c.args in
-    other_length given.queue.now given.sender c.if-queue-ne-QUEUE_SIZE.true
-
-pub returns-then-not-is_ring_whole : goal.returns-then-not-is_ring_whole
-returns-then-not-is_ring_whole c =
-    let given = c.args in
-    not_whole given.queue.now given.sender c.if-queue-ne-QUEUE_SIZE.false (sym c.is_ring_whole.ensures ∙ c.if-not-is_ring_whole.true)
+pub returns-in_err-judge : goal.returns-in_err-judge
+unfolding waiting_answer
+returns-in_err-judge c =
+    let judged = sym c.in_err-judge.was ∙ c.judge.ensures in
+    let same : c.from_residual.result ≡ Err c.in_err-judge.field-0.0 = search rules in
+    same ∙ refused _ _ _ _ judged
 
 pub returns : goal.returns
+unfolding waiting_answer
 returns c =
     let queue = c.args.queue.now in
     let sender = c.args.sender in
-    let long = c.if-queue-ne-QUEUE_SIZE.false in
-    let whole = sym c.is_ring_whole.ensures ∙ c.if-not-is_ring_whole.false in
+    let judged = sym c.in_ok-judge.was ∙ c.judge.ensures in
+    let ring = ring_judged judged in
     let packets = c.packets_waiting-packets.ensures in
     let bytes : sender.used - 2 * c.packets_waiting-packets.result ≡ byte_count (waiting_in queue sender.start sender.used) =
-    omega (arith, used_counted queue sender.start sender.used long whole, packets) in
-    ap₂ (λ (p b : ℕ). Waiting p b) packets bytes ∙ whole_counted queue sender long whole
+    omega (arith, used_counted queue sender.start sender.used ring.long ring.whole, packets) in
+    answered _ _ _ (passed _ _ _ judged) (ap₂ counts packets bytes)

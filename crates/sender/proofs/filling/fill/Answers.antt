@@ -7,7 +7,7 @@ use Rattle.sender.proofs.filling.fill.Goals as goal
 pub loop-from-init : goal.loop-from-init
 loop-from-init c =
     let queue = c.args.queue.now in
-    begins queue c.args.start c.args.used c.args.area.now
+    begins queue c.args.sender.start c.args.sender.used c.args.area.now
     (bytes_each queue (λ i. omega (arith, c.type_inv.queue i))) c.requires.1 c.requires.2 c.requires.3
 
 pub returns-then-room-lt3 : goal.returns-then-room-lt3
@@ -22,20 +22,13 @@ write_record-requires c =
     let k = reached c.loop-from.invariant c.loop-from-test.true c.mark_round-mark.ensures in
     (omega (arith, c.loop-from.invariant.filling.long), omega arith, c.requires.0, omega (arith, c.loop-from.invariant.inside))
 
-pub returns-then-room-length : goal.returns-then-room-length
-returns-then-room-length c =
-    cuts c.loop-from.invariant c.loop-from-test.true c.mark_round-mark.ensures (omega arith)
-    c.if-room-length.true c.write_record.ensures
+pub returns-after-loop-from : goal.returns-after-loop-from
+returns-after-loop-from c = ends c.loop-from.invariant c.loop-from-test.false
 
-pub write_record-requires-in-loop-from : goal.write_record-requires-in-loop-from
-write_record-requires-in-loop-from c =
-    let k = reached c.loop-from.invariant c.loop-from-test.true c.mark_round-mark.ensures in
-    (omega (arith, c.loop-from.invariant.filling.long), omega arith, c.requires.0, omega (arith, c.loop-from.invariant.inside))
+pub returns-then-length-waiting : goal.returns-then-length-waiting
+returns-then-length-waiting c =
+    cuts c.loop-from.invariant c.loop-from-test.true c.mark_round-mark.ensures (omega arith) (omega arith) c.write_record.ensures c.if-length-waiting.true
 
 pub loop-from-preserved : goal.loop-from-preserved
 loop-from-preserved c =
-    goes_on c.loop-from.invariant c.loop-from-test.true c.mark_round-mark.ensures (omega arith)
-    c.if-room-length.false c.write_record-in-loop-from.ensures
-
-pub returns : goal.returns
-returns c = ends c.loop-from.invariant c.loop-from-test.false
+    goes_on c.loop-from.invariant c.loop-from-test.true c.mark_round-mark.ensures (omega arith) (omega arith) c.write_record.ensures c.if-length-waiting.false

@@ -14,11 +14,12 @@ use Rattle.sender.proofs.filling.write_record.Goals as goal
 pub returns : goal.returns
 returns c =
     let given = c.args in
-    let mark = c.value_of.result + c.value_of-2.result + given.n in
-    let piece = take given.n (drop given.from (round_from given.start given.queue.now)) in
-    let long : length piece ≡ given.n = simp (length-take, length-drop, round_length) (omega arith) in
+    let n = given.piece.length in
+    let mark = c.value_of.result + c.value_of-2.result + n in
+    let piece = take n (drop given.piece.start (round_from given.start given.queue.now)) in
+    let long : length piece ≡ n = simp (length-take, length-drop, round_length) (omega arith) in
     c.copy_out.ensures
     ∙ ap (λ (l : List ℕ). written l (given.at + 2) piece)
-    (c.write_at.ensures ∙ ap (written given.area.now given.at) c.bytes_of-mark_bytes.ensures)
+    (c.write_at.ensures ∙ ap (written given.area.now given.at) c.bytes_of.ensures)
     ∙ written_append given.area.now given.at (marked mark []) piece (omega (arith, long))
     ∙ rw (c.value_of.ensures.value, c.value_of-2.ensures.value, long)
