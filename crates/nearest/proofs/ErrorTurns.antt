@@ -1,36 +1,34 @@
 -- Turns of the loops that find the errors and add them.
 use mathlib.Core.Path.{◌≡◌, refl, sym, ap, ap₂, ◌∙◌, subst}
-use mathlib.Core.List.{List, [], ◌∷◌, ◌++◌, append-nil}
-use Prim.Native.Nat.{ℕ, zero, suc, ◌+◌, ◌-◌, ◌*◌, ◌≤◌, ◌<◌}
+use mathlib.Core.List.{List, [], ◌∷◌, ◌++◌}
+use Prim.Native.Nat.{ℕ, zero, suc, ◌+◌, ◌-◌, ◌≤◌, ◌<◌}
 use native.Mathlib.Nat.{suc_inj, suc-ne-zero, not-suc-le-zero, le_of_suc-le-suc, le_of_eq, le_of_lt}
 use native.Mathlib.Numerals.{add-one}
 use native.Mathlib.Omega.{arith}
 use lib.Bits.{bit_xor, xor_lt}
-use lib.ListN.{length, get_or, set, take, drop, drop_of_length-le}
+use lib.ListN.{length, get_or, set, take, drop, length-drop, drop_of_length-le}
 use lib.Seq.{drop-cons, get_or-take, length-take-le, ext_get_or, split_at, take-take, take-suc}
-use Rattle.basics.specs.Lists.{Bytes}
-use Rattle.basics.proofs.Lists.{byte_at_lem}
+use Rattle.std.specs.List.{copy_within}
+use Rattle.std.proofs.lemmas.List.Edits.{take-paste}
+use Rattle.basics.proofs.Lists.{drop_take}
 use Rattle.field.specs.Field.{times}
-use Rattle.field.proofs.Laws.{times_assoc, times_comm, one_times, power_lt}
+use Rattle.field.proofs.Laws.{times_assoc, times_comm, one_times}
 use Rattle.reed_solomon.specs.Roots.{locator}
 use Rattle.nearest.specs.Search.{Falling, error_at, factor, fix_all, locators, without, without_all}
-use Rattle.nearest.proofs.Arrays.{put_next, rest_first, rest_none}
 use Rattle.nearest.proofs.ErrorLaws.{factor_lt}
 use Rattle.nearest.proofs.PlaceLists.{falling_in}
 
 -- ---- all numbers but one
 
-pub others_turn : (at out : List ℕ) (m q : ℕ) → q + 1 < m → m ≤ length at → q < length out
-    → take (q + 1) (set out q (get_or at (q + 1) 0)) ++ drop (q + 1 + 1) (take m at) ≡ take q out ++ drop (q + 1) (take m at)
-others_turn at out m q h l o =
-    put_next out (drop (q + 1 + 1) (take m at)) q (get_or at (q + 1) 0) o
-    ∙ ap (λ (t : List ℕ). take q out ++ t) (sym (rest_first at m (q + 1) 0 h l))
-
-pub others_end : (at out C : List ℕ) (m q : ℕ) → m ≡ q + 1 → take q out ++ drop (q + 1) (take m at) ≡ C → take (m - 1) out ≡ C
-others_end at out C m q h e =
-    let p : m - 1 ≡ q = omega arith in
-    ap (λ (n : ℕ). take n out) p ∙ sym (append-nil (take q out))
-    ∙ ap (λ (t : List ℕ). take q out ++ t) (sym (rest_none at m (q + 1) (le_of_eq h))) ∙ e
+pub others_taken : (xs : List ℕ) (m i : ℕ) → i < m → m ≤ length xs
+    → take (m - 1) (copy_within xs (i + 1) m i) ≡ take i xs ++ drop (i + 1) (take m xs)
+others_taken xs m i h l =
+    let n = m - (i + 1) in
+    let p : m - 1 ≡ i + n = omega arith in
+    let behind = drop (i + 1) xs in
+    ap (λ (k : ℕ). take k (copy_within xs (i + 1) m i)) p
+    ∙ take-paste xs i behind n (omega arith) (omega (arith, length-drop (i + 1) xs))
+    ∙ ap (λ (t : List ℕ). take i xs ++ t) (sym (drop_take (i + 1) m xs (omega arith) (omega arith)))
 
 -- ---- the sums without a place, and the divisor
 
@@ -67,16 +65,19 @@ without_all_cons : (y : ℕ) (Y S : List ℕ) → without_all (y ∷ Y) S ≡ wi
 unfolding without_all
 without_all_cons y Y S = refl
 
-pub without_all_turn : (o t u C : List ℕ) (m q : ℕ) → q < m → m ≤ 7 → length o ≡ 8 → length t ≡ 16 → length u ≡ 16
+next_first : (o : List ℕ) (q : ℕ) → q < length o → drop q o ≡ get_or o q 0 ∷ drop (q + 1) o
+next_first o q h = drop-cons o q 0 h ∙ ap (λ (k : ℕ). get_or o q 0 ∷ drop k o) (sym (add-one q))
+
+pub without_all_turn : (o t u C : List ℕ) (q : ℕ) → q < length o → length o ≤ 7 → length t ≡ 16 → length u ≡ 16
     → ((i : ℕ) → i < 15 → get_or u i 0 ≡ bit_xor (get_or t (i + 1) 0) (times (get_or o q 0) (get_or t i 0)))
-    → without_all (drop q (take m o)) (take (16 - q) t) ≡ C → without_all (drop (q + 1) (take m o)) (take (16 - (q + 1)) u) ≡ C
-without_all_turn o t u C m q h hm lo lt lu f e =
+    → without_all (drop q o) (take (16 - q) t) ≡ C → without_all (drop (q + 1) o) (take (16 - (q + 1)) u) ≡ C
+without_all_turn o t u C q h few lt lu f e =
     let k = 16 - (q + 1) in
-    let p : 16 - q ≡ suc k = omega (arith, h, hm) in
+    let p : 16 - q ≡ suc k = omega (arith, h, few) in
     let y = get_or o q 0 in
-    let Y = drop (q + 1) (take m o) in
+    let Y = drop (q + 1) o in
     ap (without_all Y) (without_take t u y k lt lu (omega arith) f)
-    ∙ sym (ap (λ (Z : List ℕ). without_all Z (take (16 - q) t)) (rest_first o m q 0 h (omega (arith, hm, lo)))
+    ∙ sym (ap (λ (Z : List ℕ). without_all Z (take (16 - q) t)) (next_first o q h)
     ∙ without_all_cons y Y (take (16 - q) t)
     ∙ ap (λ (i : ℕ). without_all Y (without y (take i t))) p)
     ∙ e
@@ -85,32 +86,31 @@ factor_cons : (x y : ℕ) (Y : List ℕ) → factor x (y ∷ Y) ≡ times (bit_x
 unfolding factor
 factor_cons x y Y = refl
 
-pub factor_turn : (x : ℕ) (o : List ℕ) (m q d C : ℕ) → q < m → m ≤ 7 → length o ≡ 8 → x < 256 → Bytes (take m o) → d < 256
-    → times (factor x (drop q (take m o))) d ≡ C → times (factor x (drop (q + 1) (take m o))) (times (bit_xor x (get_or o q 0)) d) ≡ C
-factor_turn x o m q d C h hm lo hx hb hd e =
+pub factor_turn : (x : ℕ) (o : List ℕ) (q d C : ℕ) → q < length o → x < 256 → get_or o q 0 < 256 → d < 256
+    → times (factor x (drop q o)) d ≡ C → times (factor x (drop (q + 1) o)) (times (bit_xor x (get_or o q 0)) d) ≡ C
+factor_turn x o q d C h hx hy hd e =
     let y = get_or o q 0 in
-    let hy : y < 256 = subst (λ (z : ℕ). z < 256) (get_or-take m o q 0 h) (byte_at_lem (take m o) hb q) in
     let f = bit_xor x y in
-    let R = drop (q + 1) (take m o) in
+    let R = drop (q + 1) o in
     let F = factor x R in
     let hf : f < 256 = xor_lt 8 x y hx hy in
     let hF : F < 256 = factor_lt x R in
     sym (times_assoc F f d hF hf hd) ∙ ap (λ (z : ℕ). times z d) (times_comm F f hF hf)
-    ∙ sym (ap (λ (z : ℕ). times z d) (ap (factor x) (rest_first o m q 0 h (omega (arith, hm, lo))) ∙ factor_cons x y R))
+    ∙ sym (ap (λ (z : ℕ). times z d) (ap (factor x) (next_first o q h) ∙ factor_cons x y R))
     ∙ e
 
-pub without_all_end : (o t C : List ℕ) (m q : ℕ) → q ≡ m → m ≤ 7 → without_all (drop q (take m o)) (take (16 - q) t) ≡ C
+pub without_all_end : (o t C : List ℕ) (q : ℕ) → q ≡ length o → length o ≤ 7 → without_all (drop q o) (take (16 - q) t) ≡ C
     → get_or t 0 0 ≡ get_or C 0 0
 unfolding without_all
-without_all_end o t C m q h hm e =
-    sym (get_or-take (16 - q) t 0 0 (omega (arith, h, hm)))
-    ∙ ap (λ (P : List ℕ). get_or (without_all P (take (16 - q) t)) 0 0) (sym (rest_none o m q (le_of_eq (sym h))))
+without_all_end o t C q h few e =
+    sym (get_or-take (16 - q) t 0 0 (omega (arith, h, few)))
+    ∙ ap (λ (P : List ℕ). get_or (without_all P (take (16 - q) t)) 0 0) (sym (drop_of_length-le o (le_of_eq (sym h))))
     ∙ ap (λ (S : List ℕ). get_or S 0 0) e
 
-pub factor_end : (x : ℕ) (o : List ℕ) (m q d C : ℕ) → q ≡ m → d < 256 → times (factor x (drop q (take m o))) d ≡ C → d ≡ C
+pub factor_end : (x : ℕ) (o : List ℕ) (q d C : ℕ) → q ≡ length o → d < 256 → times (factor x (drop q o)) d ≡ C → d ≡ C
 unfolding factor
-factor_end x o m q d C h hd e =
-    sym (one_times d hd) ∙ ap (λ (P : List ℕ). times (factor x P) d) (sym (rest_none o m q (le_of_eq (sym h)))) ∙ e
+factor_end x o q d C h hd e =
+    sym (one_times d hd) ∙ ap (λ (P : List ℕ). times (factor x P) d) (sym (drop_of_length-le o (le_of_eq (sym h)))) ∙ e
 
 -- ---- the repair of a place
 
@@ -138,10 +138,6 @@ locators_at [] i h = absurd (not-suc-le-zero h)
 locators_at (p ∷ P) zero h = refl
 locators_at (p ∷ P) (suc i) h = locators_at P i (le_of_suc-le-suc h)
 
-locators_bytes : (P : List ℕ) → Bytes (locators P)
-locators_bytes [] = tt
-locators_bytes (p ∷ P) = (power_lt (11 * p), locators_bytes P)
-
 module _ (at xs : List ℕ) (m i : ℕ) (hi : i < m) (hm : m ≤ length at) (numbers : take m xs ≡ locators (take m at)) where
   abbrev P : List ℕ
   P = take m at
@@ -165,9 +161,6 @@ module _ (at xs : List ℕ) (m i : ℕ) (hi : i < m) (hm : m ≤ length at) (num
       e ∙ ap₂ (λ (a : List ℕ) (n : ℕ). a ++ drop n (take m xs)) (sym (take-take i m xs (le_of_lt hi))) (add-one i)
       ∙ ap (λ (l : List ℕ). take i l ++ drop (suc i) l) numbers
       ∙ ap₂ (λ (a b : List ℕ). a ++ b) (locators_take i P) (locators_drop (suc i) P) ∙ sym (locators_append (take i P) (drop (suc i) P))
-
-  pub others_bytes : (o : List ℕ) → take (m - 1) o ≡ take i xs ++ drop (i + 1) (take m xs) → Bytes (take (m - 1) o)
-  others_bytes o e = subst Bytes (sym (same_others o e)) (locators_bytes (take i P ++ drop (suc i) P))
 
   pub fix_turn : (s out o C : List ℕ) (v : ℕ) → take (m - 1) o ≡ take i xs ++ drop (i + 1) (take m xs)
       → v ≡ error_at s (get_or xs i 0) (take (m - 1) o)

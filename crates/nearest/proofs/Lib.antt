@@ -12,9 +12,9 @@ mod SumLaws
 mod Complete
 mod Check
 mod ByWord
+pub mod FromFn
 mod Arrays
 mod SumTurns
 mod LocatingTurns
 mod PlaceTurns
 mod ErrorTurns
-mod HeaderTurns

@@ -1,13 +1,15 @@
 -- Turns of the loops that find the error locator.
 use mathlib.Core.Path.{◌≡◌, refl, sym, ap, ap₂, ◌∙◌, subst}
-use mathlib.Core.List.{List, [], ◌∷◌, ◌++◌, tail, append-nil}
+use mathlib.Core.List.{List, [], ◌∷◌, ◌++◌, tail, append-nil, reverse, reverse-cons}
 use Prim.Native.Nat.{ℕ, zero, suc, ◌+◌, ◌-◌, ◌≤◌, ◌<◌}
-use native.Mathlib.Nat.{suc_inj, suc-ne-zero, not-suc-le-zero, le_of_suc-le-suc, le_of_eq}
+use native.Mathlib.Nat.{suc_inj, suc-ne-zero, not-suc-le-zero, le_of_suc-le-suc}
 use native.Mathlib.Numerals.{add-one}
 use native.Mathlib.Omega.{arith}
 use lib.Bits.{bit_xor}
-use lib.ListN.{length, get_or, set, take, drop, length-drop, drop_of_length-le}
-use lib.Seq.{drop-cons, get_or-take, length-take-le, get_or-drop}
+use lib.ListN.{length, get_or, set, take, drop}
+use lib.Seq.{get_or-take, length-take-le}
+use Rattle.std.specs.List.{fold}
+use Rattle.std.proofs.lemmas.List.Sums.{fold-append}
 use Rattle.field.specs.Field.{times}
 use Rattle.division.proofs.Register.{plus_get_or, plus_length, scale_get_or, scale_length}
 use Rattle.division.specs.Division.{scale}
@@ -108,16 +110,13 @@ unfoldable pub total : List ℕ → ℕ
 total [] = 0
 total (x ∷ xs) = bit_xor x (total xs)
 
-pub total_down : (p : List ℕ) (i v : ℕ) → 0 < i → i ≤ length p → v ≡ total (drop i p) → bit_xor (get_or p (i - 1) 0) v ≡ total (drop (i - 1) p)
+-- what a fold over the list from its end makes
+pub total_back : (p : List ℕ) → fold (λ (sum x : ℕ). bit_xor x sum) 0 (reverse p) ≡ total p
 unfolding total
-total_down p zero v z h e = absurd (not-suc-le-zero z)
-total_down p (suc i) v z h e =
-    let q : suc i - 1 ≡ i = omega arith in
-    ap₂ (λ (n y : ℕ). bit_xor (get_or p n 0) y) q e ∙ sym (ap total (ap (λ (n : ℕ). drop n p) q ∙ drop-cons p i 0 h))
-
-pub total_start : (p : List ℕ) → length p ≡ 9 → 0 ≡ total (drop 9 p)
-unfolding total
-total_start p h = ap total (sym (drop_of_length-le p (le_of_eq h)))
+total_back [] = refl
+total_back (x ∷ p) =
+    let f : ℕ → ℕ → ℕ = λ sum y. bit_xor y sum in
+    ap (fold f 0) (reverse-cons x p) ∙ fold-append f 0 (reverse p) (x ∷ []) ∙ ap (bit_xor x) (total_back p)
 
 total_dot : (r S p : List ℕ) → length p ≡ length r → length r ≤ length S
     → ((i : ℕ) → i < length r → get_or p i 0 ≡ times (get_or r i 0) (get_or S i 0)) → total p ≡ dot r S
@@ -129,12 +128,12 @@ total_dot (x ∷ r) [] (y ∷ p) l h f = absurd (not-suc-le-zero h)
 total_dot (x ∷ r) (s ∷ S) (y ∷ p) l h f =
     ap₂ bit_xor (f 0 (omega arith)) (total_dot r S p (suc_inj l) (le_of_suc-le-suc h) (λ i k. f (suc i) (omega (arith, k))))
 
-pub dot_products : (r s a t p : List ℕ) (j : ℕ) → j < 8 → length r ≡ 9 → length s ≡ 16 → length p ≡ 16
+pub dot_products : (r S a t p : List ℕ) → length r ≡ 9 → 9 ≤ length S → length p ≡ 16
     → ((i : ℕ) → i < 9 → get_or a i 0 ≡ get_or r i 0)
-    → ((i : ℕ) → i < 9 → get_or t i 0 ≡ get_or s (j + i) 0) → ((i : ℕ) → i < 16 → get_or p i 0 ≡ times (get_or a i 0) (get_or t i 0))
-    → total (take 9 p) ≡ dot r (drop j s)
-dot_products r s a t p j hj lr ls lp fa ft fp =
-    total_dot r (drop j s) (take 9 p) (length-take-le 9 p (omega (arith, lp)) ∙ sym lr) (omega (arith, lr, ls, length-drop j s))
+    → ((i : ℕ) → i < 9 → get_or t i 0 ≡ get_or S i 0) → ((i : ℕ) → i < 16 → get_or p i 0 ≡ times (get_or a i 0) (get_or t i 0))
+    → total (take 9 p) ≡ dot r S
+dot_products r S a t p lr ls lp fa ft fp =
+    total_dot r S (take 9 p) (length-take-le 9 p (omega (arith, lp)) ∙ sym lr) (omega (arith, lr, ls))
     (λ i h.
     let h' : i < 9 = subst (λ (n : ℕ). i < n) lr h in
-    get_or-take 9 p i 0 h' ∙ fp i (omega (arith, h')) ∙ ap₂ times (fa i h') (ft i h' ∙ sym (get_or-drop j s i 0)))
+    get_or-take 9 p i 0 h' ∙ fp i (omega (arith, h')) ∙ ap₂ times (fa i h') (ft i h'))

@@ -1,7 +1,7 @@
 -- The codeword near a word, and near a coded header: `near_word` and `near_header` find exactly what is near (`-is`, `-none`), and there is at most one
 -- (`-one`, from `one_near` of reed_solomon).
-use mathlib.Core.Path.{◌≡◌, refl, sym, ap}
-use mathlib.Core.Bool.{Bool, true, false, ◌&&◌, false≢true}
+use mathlib.Core.Path.{◌≡◌, refl}
+use mathlib.Core.Bool.{Bool, true, ◌&&◌, false≢true}
 use Rattle.std.specs.Prelude.{Option, None, Some, is_some}
 use mathlib.Core.List.{List}
 use Prim.Native.Nat.{ℕ}
@@ -18,15 +18,9 @@ use Rattle.nearest.proofs.Nearness.{NearHeader, NearWord, self_near, one_header,
 
 -- ---- what an answer says
 
-pub found_answer : (near : Option (List ℕ)) (own c : List ℕ) → near ≡ Some c → (true ≡ is_some near) × (c ≡ or_own near own)
-found_answer near own c e = (ap is_some (sym e), ap (λ (o : Option (List ℕ)). or_own o own) (sym e))
-
 pub found_is : (near : Option (List ℕ)) (own : List ℕ) → is_some near ≡ true → near ≡ Some (or_own near own)
 found_is None own t = absurd (false≢true t)
 found_is (Some c) own t = refl
-
-pub none_answer : (near : Option (List ℕ)) (own : List ℕ) → near ≡ None → (false ≡ is_some near) × (own ≡ or_own near own)
-none_answer near own e = (ap is_some (sym e), ap (λ (o : Option (List ℕ)). or_own o own) (sym e))
 
 pub nothing : (near : Option (List ℕ)) → ((c : List ℕ) → near ≡ Some c → ⊥) → near ≡ None
 nothing None f = refl

@@ -2,7 +2,7 @@
 use mathlib.Core.Path.{◌≡◌, refl, sym, ap, ap₂, ◌∙◌}
 use mathlib.Core.List.{List, [], ◌∷◌, ◌++◌, append-nil}
 use Prim.Native.Nat.{ℕ, zero, suc, ◌+◌, ◌-◌, ◌≤◌, ◌<◌}
-use native.Mathlib.Nat.{not-suc-le-zero, le_of_eq, le_refl}
+use native.Mathlib.Nat.{not-suc-le-zero, le_refl}
 use native.Mathlib.Numerals.{add-one}
 use native.Mathlib.Omega.{arith}
 use lib.Bits.{bit_xor}
@@ -25,9 +25,9 @@ value_at_down x l (suc i) v p h e =
     ap (λ (n : ℕ). bit_xor (get_or l n 0) (times x v)) q ∙ ap (λ (y : ℕ). bit_xor (get_or l i 0) (times x y)) e ∙ sym (value_at_turn x l i h)
     ∙ ap (λ (n : ℕ). value_at x (drop n l)) (sym q)
 
-pub value_at_start : (x : ℕ) (l : List ℕ) → length l ≡ 9 → 0 ≡ value_at x (drop 9 l)
+pub value_at_start : (x : ℕ) (l : List ℕ) → 0 ≡ value_at x (drop (length l) l)
 unfolding value_at
-value_at_start x l h = ap (value_at x) (sym (drop_of_length-le l (le_of_eq h)))
+value_at_start x l = ap (value_at x) (sym (drop_of_length-le l (le_refl (length l))))
 
 -- ---- the places where the values are 0
 

@@ -61,12 +61,12 @@ remainder_value x long hx i h =
     ∙ value_of u x hx
 
 pub sums_are : (w s r : List ℕ) → length w ≡ 255 → Bytes w → r ≡ remainder_of w
-    → (length s ≡ 16) × ((i : ℕ) → i < 16 → get_or s i 0 ≡ value (power (11 * (120 + i))) 0 r) → s ≡ sums_of w
-sums_are w s r long hw e f =
-    ext_get_or 0 s (sums_of w) (f.0 ∙ sym (sums_length 16 120 w))
+    → length s ≡ 16 → ((i : ℕ) → i < 16 → get_or s i 0 ≡ value (power (11 * (120 + i))) 0 r) → s ≡ sums_of w
+sums_are w s r long hw e ls f =
+    ext_get_or 0 s (sums_of w) (ls ∙ sym (sums_length 16 120 w))
     (λ i h.
-    let h' : i < 16 = subst (λ (n : ℕ). i < n) f.0 h in
-    f.1 i h' ∙ ap (value (power (11 * (120 + i))) 0) e ∙ remainder_value w long hw i h' ∙ sym (sums_at 16 120 w i h'))
+    let h' : i < 16 = subst (λ (n : ℕ). i < n) ls h in
+    f i h' ∙ ap (value (power (11 * (120 + i))) 0) e ∙ remainder_value w long hw i h' ∙ sym (sums_at 16 120 w i h'))
 
 -- ---- a codeword's sums are 0, and a word whose sums are 0 is a codeword
 
@@ -139,15 +139,15 @@ terms_set u (suc k) n v (c ∷ p) h =
 
 -- the sums of a word after one place is repaired
 pub sums_set : (l t r : List ℕ) (n v x : ℕ) → length l ≡ 255 → n < 255 → x ≡ locator n → t ≡ sums_of l
-    → (length r ≡ 16) × ((i : ℕ) → i < 16 → get_or r i 0 ≡ bit_xor (get_or t i 0) (times v (raised x (120 + i))))
+    → length r ≡ 16 → ((i : ℕ) → i < 16 → get_or r i 0 ≡ bit_xor (get_or t i 0) (times v (raised x (120 + i))))
     → r ≡ sums_of (set l (254 - n) (bit_xor (get_or l (254 - n) 0) v))
-sums_set l t r n v x long hn ex et er =
+sums_set l t r n v x long hn ex et lr er =
     let l' = set l (254 - n) (bit_xor (get_or l (254 - n) 0) v) in
-    ext_get_or 0 r (sums_of l') (er.0 ∙ sym (sums_length 16 120 l'))
+    ext_get_or 0 r (sums_of l') (lr ∙ sym (sums_length 16 120 l'))
     (λ i h.
-    let h' : i < 16 = subst (λ (m : ℕ). i < m) er.0 h in
+    let h' : i < 16 = subst (λ (m : ℕ). i < m) lr h in
     let u = 11 * (120 + i) in
-    er.1 i h'
+    er i h'
     ∙ ap₂ bit_xor (ap (λ (s : List ℕ). get_or s i 0) et ∙ sums_at 16 120 l i h')
     (ap (times v) (ap (λ (y : ℕ). raised y (120 + i)) ex ∙ raised_power (11 * n) (120 + i) ∙ ap power (swap n (120 + i))))
     ∙ sym (terms_set u (254 - n) n v l (omega (arith, long, hn)))

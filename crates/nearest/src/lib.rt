@@ -7,7 +7,7 @@ mod places;
 mod sums;
 mod values;
 
-ghost use Rattle.std.specs.Prelude.{◌≡◌};
+ghost use Rattle.std.specs.Prelude.{◌≡◌, drop};
 ghost use Rattle.basics.specs.Lists.{Bytes};
 ghost use Rattle.reed_solomon.specs.Code.{remainder_of, lengthened};
 ghost use Rattle.nearest.specs.Near.{near_word, near_header};
@@ -45,14 +45,28 @@ pub fn repair_header(own: [u8; 32], remainder: [u8; 16]) -> Option<[u8; 32]>
     requires { Bytes own × (remainder ≡ remainder_of (lengthened own)) }
     ensures { result ≡ near_header own }
 {
-    let mut long = [0u8; 255];
-    long[223..].copy_from_slice(&own);
-    let word = repair_word(long, remainder)?;
+    let word = repair_word(lengthened_of(own), remainder)?;
     // A codeword that is near by changing what was not sent is none of a header.
     if !lent::are_zeros(&word[..223]) {
         return None;
     }
+    Some(sent_of(word))
+}
+
+// The word of a header.
+fn lengthened_of(header: [u8; 32]) -> [u8; 255]
+    ensures { result ≡ lengthened header }
+{
+    let mut word = [0u8; 255];
+    lent::write_at(&mut word, 223, &header);
+    word
+}
+
+// The bytes of a word that are sent for a header.
+fn sent_of(word: [u8; 255]) -> [u8; 32]
+    ensures { result ≡ drop 223 word }
+{
     let mut header = [0u8; 32];
     header.copy_from_slice(&word[223..]);
-    Some(header)
+    header
 }

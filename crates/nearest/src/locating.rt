@@ -40,10 +40,11 @@ fn cut_rows(rows: [[u8; 9]; 9], sums: [u8; 16], from: usize) -> [[u8; 9]; 9]
 {
     let mut out = rows;
     let mut carried = rows[0];
-    let mut x = dot_of(carried, &sums[from..]);
+    let later = &sums[from..];
+    let mut x = dot_of(carried, later);
     for i in 0..8 - from {
         let next = rows[i + 1];
-        let y = dot_of(next, &sums[from..]);
+        let y = dot_of(next, later);
         if x == 0 {
             out[i] = carried;
             carried = next;

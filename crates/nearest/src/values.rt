@@ -23,7 +23,12 @@ pub fn progression<const N: usize>(first: u8, ratio: u8) -> [u8; N]
 fn step<const N: usize>(numbers: [u8; N], values: [u8; N], coefficient: u8) -> [u8; N]
     ensures { (i : ℕ) → i < N → get_or result i 0 ≡ bit_xor coefficient (times (get_or numbers.entry i 0) (get_or values.entry i 0)) }
 {
-    std::array::from_fn(|i| coefficient ^ field::product(numbers[i], values[i]))
+    // In a generic function the check learns nothing of an array from the closure that `from_fn` calls, so this is a loop.
+    let mut out = [0u8; N];
+    for i in 0..N {
+        out[i] = coefficient ^ field::product(numbers[i], values[i]);
+    }
+    out
 }
 
 // The values at N numbers of a polynomial, its coefficients from the lowest power up.
@@ -31,8 +36,8 @@ pub fn values_at<const N: usize>(numbers: [u8; N], polynomial: &[u8]) -> [u8; N]
     ensures { (i : ℕ) → i < N → get_or result i 0 ≡ value_at (get_or numbers.entry i 0) polynomial.now }
 {
     let mut values = [0u8; N];
-    for coefficient in polynomial.iter().rev() {
-        values = step(numbers, values, *coefficient);
+    for i in (0..polynomial.len()).rev() {
+        values = step(numbers, values, polynomial[i]);
     }
     values
 }

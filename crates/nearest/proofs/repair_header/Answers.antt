@@ -1,52 +1,46 @@
 -- Behind its zeros the header is a word; the codeword near that is the header's where it changes none of them (`header_found`), and otherwise none is
 -- (`header_changed`, `header_missed`).
-use mathlib.Core.Path.{◌≡◌, sym, ap, ◌∙◌, subst}
+use Rattle.std.proofs.Common.{◌≡◌, ℕ, Bool, true, false, List, Some, None, length, take, sym, ap, ◌∙◌, subst, rules, arith}
+use Rattle.std.proofs.Math.Seq.{length-take-le}
 use mathlib.Core.Bool.{false≢true}
-use mathlib.Core.Option.{some}
-use lib.ListN.{length}
-use Rattle.basics.specs.Lists.{Bytes}
-use Rattle.reed_solomon.specs.Code.{remainder_of}
-use Rattle.nearest.specs.Near.{near_header, repaired_header}
+use Rattle.basics.specs.Lists.{Bytes, zeros, same}
+use Rattle.basics.proofs.Tests.{same_self, same_true}
+use Rattle.reed_solomon.specs.Code.{remainder_of, lengthened}
+use Rattle.nearest.specs.Near.{near_word}
 use Rattle.nearest.proofs.ByWord.{header_changed, header_found, header_missed}
-use Rattle.nearest.proofs.Nearest.{found_answer, none_answer}
 use Rattle.nearest.proofs.Nearness.{lengthened_bytes}
-use borrow.Author.Rules.{rules}
 use Rattle.nearest.proofs.repair_header.Goals as goal
 
-pub repair_word-repaired-requires : goal.repair_word-repaired-requires
-repair_word-repaired-requires c =
-    let given = c in
-    let own = given.args.own in
-    let long : length own ≡ 32 = search rules in
-    let same = sym c.lengthened_of-long.ensures in
-    (subst Bytes same (lengthened_bytes own long given.requires.0), given.requires.1 ∙ ap (λ w. remainder_of w) same)
+pub repair_word-requires : goal.repair_word-requires
+repair_word-requires c =
+    let same = sym c.lengthened_of.ensures in
+    (subst Bytes same (lengthened_bytes c.args.own (search rules) c.requires.0), c.requires.1 ∙ ap (λ w. remainder_of w) same)
 
-pub returns-then-not-found : goal.returns-then-not-found
-unfolding repaired_header
-returns-then-not-found c =
-    let word = c.repair_word-repaired in
-    let long = c.lengthened_of-long in
-    let own = c.args.own in
-    let e = header_missed own long.result word.result.word word.result.found (search rules) long.ensures word.ensures.0 word.ensures.1 in
-    none_answer (near_header own) own (e c.if-not-found.true)
+pub returns-in_err-word : goal.returns-in_err-word
+returns-in_err-word c =
+    let near : near_word (lengthened c.args.own) ≡ None = search rules in
+    c.from_residual.ensures ∙ sym (header_missed c.args.own (search rules) near)
 
-pub returns-then-not-is_unsent_zero : goal.returns-then-not-is_unsent_zero
-unfolding repaired_header
-returns-then-not-is_unsent_zero c =
-    let word = c.repair_word-repaired in
-    let long = c.lengthened_of-long in
-    let own = c.args.own in
-    let e = header_changed own long.result word.result.word word.result.found (search rules) long.ensures word.ensures.0 word.ensures.1 in
-    none_answer (near_header own) own
-    (e c.if-not-found.false (λ z. false≢true (sym c.if-not-is_unsent_zero.true ∙ c.is_unsent_zero.ensures.1 z)))
+front_long : (word : List ℕ) → length word ≡ 255 → length (take 223 word) ≡ 223
+front_long word long = length-take-le 223 word (omega (arith, long))
+
+-- the test of the bytes that are not sent, with their count
+tested : (word : List ℕ) (test : Bool) → length word ≡ 255 → same (take 223 word) (zeros (length (take 223 word))) ≡ test → same (take 223 word) (zeros 223) ≡ test
+tested word test long e = ap (λ n. same (take 223 word) (zeros n)) (sym (front_long word long)) ∙ e
+
+pub slice_bounds-are_zeros-end : goal.slice_bounds-are_zeros-end
+slice_bounds-are_zeros-end c = sym (front_long c.in_ok-word.word (search rules))
+
+pub returns-then-not-are_zeros : goal.returns-then-not-are_zeros
+returns-then-not-are_zeros c =
+    let word = c.in_ok-word.word in
+    let near : near_word (lengthened c.args.own) ≡ Some word = search rules in
+    let other = tested word false (search rules) (sym c.are_zeros.ensures ∙ c.if-not-are_zeros.true) in
+    sym (header_changed c.args.own (search rules) word near (λ z. false≢true (sym other ∙ ap (λ l. same l (zeros 223)) z ∙ same_self (zeros 223))))
 
 pub returns : goal.returns
-unfolding repaired_header
 returns c =
-    let word = c.repair_word-repaired in
-    let long = c.lengthened_of-long in
-    let own = c.args.own in
-    let e = header_found own long.result word.result.word word.result.found (search rules) long.ensures word.ensures.0 word.ensures.1 in
-    let kept = c.is_unsent_zero.ensures.0 c.if-not-is_unsent_zero.false in
-    found_answer (near_header own) own c.sent_of-header.result
-    (e c.if-not-found.false kept ∙ ap some (sym c.sent_of-header.ensures))
+    let word = c.in_ok-word.word in
+    let near : near_word (lengthened c.args.own) ≡ Some word = search rules in
+    let none = same_true (take 223 word) (zeros 223) (tested word true (search rules) (sym c.are_zeros.ensures ∙ c.if-not-are_zeros.false)) in
+    ap Some c.sent_of.ensures ∙ sym (header_found c.args.own (search rules) word near none)

@@ -8,8 +8,5 @@ use Rattle.nearest.proofs.locating.cut_rows.Given as goal
 
 abbrev pub invariant-loop-i : goal.invariant-loop-i
 invariant-loop-i l =
-    (l.i ≤ 8 - l.from) × (l.from < 8) × (length l.rows ≡ 9) × (length l.out ≡ 9) × (l.x ≡ dot l.carried (drop l.from l.sums))
-    × (take l.i l.out ++ pass (drop l.from l.sums) l.carried (drop (l.i + 1) (take (9 - l.from) l.rows)) ≡ cut (drop l.from l.sums) (take (9 - l.from) l.rows))
-
-abbrev pub decreases-loop-i : goal.decreases-loop-i
-decreases-loop-i l = 8 - l.from - l.i
+    (l.i ≤ 8 - l.from) × (l.from < 8) × (length l.rows ≡ 9) × (length l.out ≡ 9) × (l.x ≡ dot l.carried (drop l.from l.fn.sums))
+    × (take l.i l.out ++ pass (drop l.from l.fn.sums) l.carried (drop (l.i + 1) (take (9 - l.from) l.rows)) ≡ cut (drop l.from l.fn.sums) (take (9 - l.from) l.rows))

@@ -9,7 +9,7 @@ pub loop-from-preserved : goal.loop-from-preserved
 loop-from-preserved c =
     let loop = c.loop-from in
     let args = c.args in
-    let cut = c.cut_rows-next in
+    let cut = c.cut_rows-rows in
     (search rules, locate_turn args.sums loop.rows cut.result loop.from (omega arith) cut.ensures ∙ loop.invariant.1)
 
 pub returns : goal.returns

@@ -7,6 +7,3 @@ use Rattle.nearest.proofs.locating.locate.Given as goal
 
 abbrev pub invariant-loop-from : goal.invariant-loop-from
 invariant-loop-from l = (l.from ≤ 8) × (cut_all (8 - l.from) (drop l.from l.sums) (take (9 - l.from) l.rows) ≡ cut_all 8 l.sums (units 0 9))
-
-abbrev pub decreases-loop-from : goal.decreases-loop-from
-decreases-loop-from l = 8 - l.from

@@ -1,29 +1,20 @@
--- Sum by sum: each takes the error times the next power of the place's number (`power_turn`).
-use mathlib.Core.Path.{◌≡◌, ap, ◌∙◌}
-use Prim.Native.Nat.{ℕ, suc, ◌+◌}
-use native.Mathlib.Omega.{arith}
-use lib.Bits.{bit_xor}
-use lib.ListN.{get_or}
-use Rattle.basics.proofs.Fill.{stored_more}
+-- Sum by sum: the error times the next power of the place's number (`power_from`).
+use Rattle.std.proofs.Common.{◌≡◌, ℕ, get_or, ap, ◌∙◌, rules, arith}
+use Rattle.std.specs.Int.Bits.{bit_xor}
 use Rattle.field.specs.Field.{times}
 use Rattle.field.specs.Raised.{raised}
-use Rattle.nearest.proofs.SumTurns.{power_turn}
-use borrow.Author.Rules.{rules}
+use Rattle.nearest.proofs.FromFn.{made_each}
+use Rattle.nearest.proofs.SumTurns.{power_from}
 use Rattle.nearest.proofs.sums.sums_with.Goals as goal
 
-pub loop-i-preserved : goal.loop-i-preserved
-loop-i-preserved c =
-    let loop = c.loop-i in
-    let args = c.args in
-    let term : ℕ → ℕ = λ k. times args.error (raised args.number k) in
-    let next : suc (120 + loop.i) ≡ 120 + (loop.i + 1) = omega arith in (
-      search rules,
-      search rules,
-      search rules,
-      loop.invariant.3,
-      loop.invariant.4,
-      c.product-term-in-loop-i.ensures ∙ power_turn args.error args.number loop.term (120 + loop.i) loop.invariant.3 loop.invariant.4 loop.invariant.5
-          ∙ ap term next,
-      stored_more (λ k. bit_xor (get_or args.sums k 0) (term (120 + k))) loop.out loop.i _ loop.invariant.6 (omega (arith, loop.invariant))
-          (ap (bit_xor (get_or args.sums loop.i 0)) loop.invariant.5),
-    )
+pub returns : goal.returns
+returns c =
+    let error = c.args.error in
+    let number = c.args.number in
+    let sums = c.args.sums in
+    let terms = c.progression-terms in
+    let P : ℕ → ℕ → Type 0 = λ i y. y ≡ bit_xor (get_or sums i 0) (get_or terms.result i 0) in
+    let first = c.product-first.ensures ∙ ap (times error) c.raised_to.ensures in
+    λ i h.
+    made_each _ P _ 16 (λ k y q l call. search rules) c.from_fn.result c.from_fn.ensures.items i 0 h
+    ∙ ap (bit_xor (get_or sums i 0)) (terms.ensures i h ∙ ap (λ y. times y (raised number i)) first ∙ power_from error number i (omega arith) (omega arith))
