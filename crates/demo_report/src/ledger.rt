@@ -5,17 +5,13 @@ use std::ops::Range;
 pub const BLOCKS: usize = 64;
 
 // Blocks that follow each other: from the number `first` up to the one before `end`.
-#[derive(Clone, Copy)]
+#[derive(Clone, Copy, Default)]
 pub struct Blocks {
     pub first: u16,
     pub end: u16,
 }
 
 impl Blocks {
-    pub fn none() -> Blocks {
-        Blocks { first: 0, end: 0 }
-    }
-
     pub fn numbers(self) -> Range<u16> {
         self.first..self.end
     }

@@ -27,7 +27,7 @@ impl NearEnd {
             sender: Sender::fresh(),
             queue: [0; sizes::QUEUE_SIZE],
             put: 0,
-            blocks: Blocks::none(),
+            blocks: Blocks::default(),
         }
     }
 

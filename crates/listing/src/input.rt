@@ -4,7 +4,7 @@ ghost use Rattle.listing.specs.Input.{Within, EndsShort};
 use std::io;
 
 // Reads the next frame, and answers how many bytes of it there are: fewer than a frame only where the input ends. A read may bring less than is asked, as from
-// a pipe: it is asked until the frame is whole or the input ends. So each turn of the loop goes on by as many bytes as came, and none has a count.
+// a pipe: it is asked until the frame is whole or the input ends. A `while`, since each turn goes on by as many bytes as came.
 pub fn read_frame<R: io::Read>(input: &mut R, frame: &mut [u8]) -> io::Result<usize>
     ensures within { Within result frame.new }
     ensures ends { EndsShort result frame.new (R.remaining input.new) }

@@ -15,7 +15,8 @@ const SPACE: u8 = 32;
 
 const NEWLINE: u8 = 10;
 
-// Writes a word and the byte behind it from an index on, and gives the index behind both.
+// Writes a word and the byte behind it from an index on, and gives the index behind both. By an index, since the contract says which bytes stand in the lent
+// buffer and that all have room: of a buffer that is lent `write!` promises neither, and a part that is lent on does not come back.
 fn write_word(out: &mut [u8], at: usize, word: &[u8], behind: u8) -> usize
     requires { at + length word.now + 1 ≤ length out.old }
     ensures value { result ≡ at + length word.now + 1 }
@@ -33,11 +34,11 @@ fn write_number(out: &mut [u8], at: usize, number: u64, behind: u8) -> usize
     ensures value { (result ≡ at + length (decimal number) + 1) × (length (decimal number) ≤ 20) }
     ensures out_after { out.new ≡ written out.old at (decimal number ++ (behind ∷ [])) }
 {
-    let mut digits = [0u8; 20];
-    let length = io::decimal(number, &mut digits);
-    write_word(out, at, &digits[..length], behind)
+    let mut digits = itoa::Buffer::new();
+    write_word(out, at, digits.format(number).as_bytes(), behind)
 }
 
+// A kind's word, as bytes: only `write!` could print it by `Display`.
 fn word_of(kind: FrameKind) -> &'static [u8]
     ensures word { result.now ≡ kind_word kind }
     ensures short { length result.now ≤ 5 }
@@ -50,7 +51,7 @@ fn word_of(kind: FrameKind) -> &'static [u8]
     }
 }
 
-// Writes the head line, and gives its length. This line and all others have room in 96 bytes.
+// Writes the head line, and gives its length. This line and all others have room in 96 bytes: a clause, since an array of 96 would ask more of callers.
 #[tactic(auto, unfolding(crate::specs::Lines::head_line))]
 pub fn write_head(out: &mut [u8]) -> usize
     requires { 96 ≤ length out.old }
@@ -80,7 +81,7 @@ fn write_accepted(
     write_number(out, after_missed, packets as u64, NEWLINE)
 }
 
-// Writes the line of a frame that is refused, by the one call or the other, and gives its length.
+// Writes the line of a frame that is refused, by the one call or the other, and gives its length. Any number has its line: a `Refusal` would ask more of callers.
 pub fn write_refused(out: &mut [u8], place: u64, number: u8) -> usize
     requires { 96 ≤ length out.old }
     ensures value { (result ≡ length (refused_line place number)) × (result ≤ 96) }

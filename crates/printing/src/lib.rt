@@ -31,5 +31,5 @@ pub fn hex<W: Write>(out: &mut W, n: u64, digits: usize) -> io::Result<()> {
 pub fn more(n: u64) -> u64
     ensures { (n ≤ result) × (0 < result) }
 {
-    if n < u64::MAX { n + 1 } else { n }
+    n.saturating_add(1)
 }
