@@ -11,42 +11,33 @@ use lib.IntN.{ℤ, pos, neg_ℤ}
 use lib.ListN.{length}
 use Rattle.basics.specs.Sizes.{queue_size, most_packet}
 use Rattle.basics.specs.Numbers.{above}
+use Rattle.std.specs.Prelude.{Option, Result, Err}
+use Rattle.refusals.specs.Numbers.{refusal_of, number_in}
 use Rattle.refusals.specs.Table.{Row, ◌when◌, ◌unless◌, first_of}
+use Rattle.refusals.specs.declared.Refusal.{Refusal}
+use Rattle.refusals.specs.declared.Refusal.TheVariants.{Taps, Size, ListPosition}
 use Rattle.refusals.proofs.Table.{numbers_of}
 use Rattle.scrambler.specs.Scrambler.{taps_allowed}
 use Rattle.header.specs.Calls.{code_table, CodeHeaderOutcome}
 use Rattle.header.specs.declared.Fields.{Fields}
 use Rattle.header.specs.declared.Header.{Header}
-use Rattle.header.specs.declared.CodeAnswer.{CodeAnswer}
-use Rattle.header.specs.declared.CodeAnswer.TheVariants as coding
 use Rattle.header_reading.specs.Reading.{read_table, ReadHeaderOutcome}
-use Rattle.header_reading.specs.declared.ReadAnswer.{ReadAnswer}
-use Rattle.header_reading.specs.declared.ReadAnswer.TheVariants as reading
 use Rattle.fast_channel.specs.Level.{LevelOutcome}
 use Rattle.opening.specs.Opening.{open_table, OpenOutcome}
+use Rattle.opening.specs.declared.Opened.{Opened}
 use Rattle.repairing.specs.Repairing.{repair_table, RepairOutcome, shown_bytes, shown_place}
-use Rattle.repairing.specs.declared.RepairAnswer.{RepairAnswer}
-use Rattle.repairing.specs.declared.RepairAnswer.TheVariants as repairing
-use Rattle.opening.specs.declared.OpenAnswer.{OpenAnswer}
-use Rattle.opening.specs.declared.OpenAnswer.TheVariants as opening
 use Rattle.marks.specs.Queue.{is_ring_whole}
-use Rattle.sender.specs.Put.{put_table, put_number, PutOutcome}
+use Rattle.sender.specs.Put.{put_table, PutOutcome}
 use Rattle.sender.specs.Waiting.{waiting_table, WaitingOutcome}
 use Rattle.sender.specs.declared.Sender.{Sender}
-use Rattle.sender.specs.declared.PutAnswer.{PutAnswer}
-use Rattle.sender.specs.declared.PutAnswer.TheVariants as putting
-use Rattle.sender.specs.declared.WaitingAnswer.{WaitingAnswer}
-use Rattle.sender.specs.declared.WaitingAnswer.TheVariants as counting
+use Rattle.sender.specs.declared.Counted.{Counted}
 use Rattle.sending.specs.Next.{next_table, NextOutcome}
-use Rattle.sending.specs.declared.NextAnswer.{NextAnswer}
-use Rattle.sending.specs.declared.NextAnswer.TheVariants as sending
+use Rattle.sending.specs.declared.Sent.{Sent}
 use Rattle.receiver.specs.Applying.{apply_table, ApplyOutcome}
 use Rattle.receiver.specs.declared.Receiver.{Receiver}
-use Rattle.receiver.specs.declared.ApplyAnswer.{ApplyAnswer}
-use Rattle.receiver.specs.declared.ApplyAnswer.TheVariants as applying
+use Rattle.receiver.specs.declared.Applied.{Applied}
+use Rattle.list.specs.declared.Place.{Place}
 use Rattle.list.specs.Entries.{entry_table, length_at, packet_at, place_at, EntryOutcome, PacketOutcome}
-use Rattle.list.specs.declared.EntryAnswer.{EntryAnswer}
-use Rattle.list.specs.declared.EntryAnswer.TheVariants as listing
 use Rattle.flat.specs.Headers.{no_header}
 use Rattle.flat.specs.declared.headers.FlatFields.{FlatFields}
 use Rattle.flat.specs.declared.headers.FlatHeader.{FlatHeader}
@@ -64,19 +55,20 @@ use Rattle.flat.specs.declared.FlatEntry.{FlatEntry}
 use Rattle.flat.specs.declared.FlatPacket.{FlatPacket}
 use Rattle.taqwelim.specs.Calls.{FreshSenderCall, PutCall, WaitingCall, NextCall, FreshReceiverCall, OpenCall, RepairCall, ApplyCall, EntryCall}
 use Rattle.taqwelim.specs.Calls.{PacketCall, CodeCall, ReadCall, LevelCall}
-use Rattle.demands.specs.Demand1.{Demand1}
-use Rattle.demands.proofs.Outcomes.{among, first_among}
+use Rattle.demands.specs.Demand1.{Demand1, RefusesWith, RefusesByTable}
+use Rattle.demands.proofs.Outcomes.{among, first_among, refused_as}
 use Rattle.demands.proofs.Demand1.{every_call_holds}
 use Rattle.demands.proofs.CallsForC.{every_call_for_c_holds}
 
--- The row that applies first is the one given, and every lent byte is as it was (`number`, `refused`, `refusal`).
-module _ {A B : Type 0} {Meets : A → B → Type 0} {before : B} {number_of : A → ℕ} {Refuses : A → ℕ → Type 0} {table : List Row}
-    (demand : Demand1 Meets before number_of Refuses table) where
-  first_given : (n : ℕ) → first_of table ≡ n → (n ≡ 0 → ⊥) → (answer : A) (after : B) → Meets answer after → Refuses answer n × (after ≡ before)
+-- The row that applies first is the one given: the answer for its refusal, and every lent byte as it was (`number`, `refused`, `refusal`).
+module _ {A B : Type 0} {Meets : A → B → Type 0} {before : B} {number_of : A → ℕ} {refused : Refusal → A} {table : List Row}
+    (demand : Demand1 Meets before number_of (RefusesWith refused) table) where
+  first_given : (n : ℕ) → first_of table ≡ n → (n ≡ 0 → ⊥) → (answer : A) (after : B) → Meets answer after
+      → (answer ≡ refused (refusal_of n)) × (after ≡ before)
   first_given n first ne answer after o =
       let e = demand.number answer after o ∙ first in
-      let refuses = subst (Refuses answer) e (demand.refused answer after o (λ z. ne (sym e ∙ z))) in
-      (refuses, (demand.refusal answer n after o refuses).1)
+      let refuses = subst (RefusesWith refused answer) e (demand.refused answer after o (λ z. ne (sym e ∙ z))) in
+      (refused_as refuses, (demand.refusal answer n after o refuses).1)
 
 -- ---- the numbers of each call, in its order (01, "Refusal numbers"; 02, M-106 and M-101)
 
@@ -111,54 +103,54 @@ numbers_of_entry list position = refl
 
 -- ---- the library's calls: without bytes, or with tap 0 clear
 
-pub put_refused : (sender : Sender) (packet : List ℕ) (answer : PutAnswer) (after : List ℕ) → PutOutcome [] sender packet answer after
-    → (answer ≡ putting.Refused 2) × (after ≡ [])
-unfolding first_of
+pub put_refused : (sender : Sender) (packet : List ℕ) (answer : Result Sender Refusal) (after : List ℕ) → PutOutcome [] sender packet answer after
+    → (answer ≡ Err Size) × (after ≡ [])
+unfolding first_of refusal_of
 put_refused sender packet = first_given (every_call_holds.put [] sender packet) 2 refl (λ z. omega arith)
 
-pub waiting_refused : (sender : Sender) (answer : WaitingAnswer) → WaitingOutcome [] sender answer → answer ≡ counting.Refused 2
-unfolding first_of
+pub waiting_refused : (sender : Sender) (answer : Result Counted Refusal) → WaitingOutcome [] sender answer → answer ≡ Err Size
+unfolding first_of refusal_of
 waiting_refused sender answer o = (first_given (every_call_holds.waiting [] sender) 2 refl (λ z. omega arith) answer tt o).0
 
-pub next_refused : (fields : Fields) (sender : Sender) (queue out : List ℕ) (answer : NextAnswer) (after : List ℕ × List ℕ)
-    → NextOutcome 0 fields sender queue out answer after.0 after.1 → (answer ≡ sending.Refused 1) × (after ≡ (queue, out))
-unfolding first_of taps_allowed
+pub next_refused : (fields : Fields) (sender : Sender) (queue out : List ℕ) (answer : Result Sent Refusal) (after : List ℕ × List ℕ)
+    → NextOutcome 0 fields sender queue out answer after.0 after.1 → (answer ≡ Err Taps) × (after ≡ (queue, out))
+unfolding first_of refusal_of taps_allowed
 next_refused fields sender queue out = first_given (every_call_holds.next_frame 0 fields sender queue out) 1 refl (λ z. omega arith)
 
-pub open_refused : (frame area : List ℕ) (answer : OpenAnswer) (after : List ℕ)
-    → OpenOutcome 0 frame area answer after → (answer ≡ opening.Refused 1) × (after ≡ area)
-unfolding first_of taps_allowed
+pub open_refused : (frame area : List ℕ) (answer : Result Opened Refusal) (after : List ℕ)
+    → OpenOutcome 0 frame area answer after → (answer ≡ Err Taps) × (after ≡ area)
+unfolding first_of refusal_of taps_allowed
 open_refused frame area = first_given (every_call_holds.open_frame 0 frame area) 1 refl (λ z. omega arith)
 
-pub repair_refused : (part scratch : List ℕ) (answer : RepairAnswer) (after : List ℕ)
-    → RepairOutcome 0 part scratch answer after → (answer ≡ repairing.Refused 1) × (after ≡ scratch)
-unfolding first_of taps_allowed
+pub repair_refused : (part scratch : List ℕ) (answer : Result ℕ Refusal) (after : List ℕ)
+    → RepairOutcome 0 part scratch answer after → (answer ≡ Err Taps) × (after ≡ scratch)
+unfolding first_of refusal_of taps_allowed
 repair_refused part scratch = first_given (every_call_holds.repair 0 part scratch) 1 refl (λ z. omega arith)
 
 -- one part is shown, and after a refusal it is empty
-pub shown_none : (number : ℕ) (part scratch : Bor (List ℕ)) (r : List ℕ × (ℕ × ℕ))
-    → (r.0 ≡ shown_bytes (repairing.Refused number) part.now scratch.now) × (r.1 ≡ shown_place (repairing.Refused number) part scratch) → r.0 ≡ []
+pub shown_none : (refusal : Refusal) (part scratch : Bor (List ℕ)) (r : List ℕ × (ℕ × ℕ))
+    → (r.0 ≡ shown_bytes (Err refusal) part.now scratch.now) × (r.1 ≡ shown_place (Err refusal) part scratch) → r.0 ≡ []
 unfolding shown_bytes shown_place
-shown_none number part scratch r o =
+shown_none refusal part scratch r o =
     ap (λ (x : List ℕ × (ℕ × ℕ)). x.0)
-    ((every_call_holds.shown (repairing.Refused number) part scratch).one_outcome r ([], part.ref_ptr) tt tt o (refl, refl)).0
+    ((every_call_holds.shown (Err refusal) part scratch).one_outcome r ([], part.ref_ptr) tt tt o (refl, refl)).0
 
-pub apply_refused : (header : Header) (receiver : Receiver) (hold list : List ℕ) (answer : ApplyAnswer) (after : List ℕ × List ℕ)
-    → ApplyOutcome header [] receiver hold list answer after.0 after.1 → (answer ≡ applying.Refused 2) × (after ≡ (hold, list))
-unfolding first_of
+pub apply_refused : (header : Header) (receiver : Receiver) (hold list : List ℕ) (answer : Result Applied Refusal) (after : List ℕ × List ℕ)
+    → ApplyOutcome header [] receiver hold list answer after.0 after.1 → (answer ≡ Err Size) × (after ≡ (hold, list))
+unfolding first_of refusal_of
 apply_refused header receiver hold list = first_given (every_call_holds.apply header [] receiver hold list) 2 refl (λ z. omega arith)
 
-pub code_refused : (header : Header) (answer : CodeAnswer) (after : List ℕ)
-    → CodeHeaderOutcome header [] answer after → (answer ≡ coding.Refused 2) × (after ≡ [])
-unfolding first_of
+pub code_refused : (header : Header) (answer : Result (Unit {0}) Refusal) (after : List ℕ)
+    → CodeHeaderOutcome header [] answer after → (answer ≡ Err Size) × (after ≡ [])
+unfolding first_of refusal_of
 code_refused header = first_given (every_call_holds.code_header header []) 2 refl (λ z. omega arith)
 
-pub read_refused : (answer : ReadAnswer) → ReadHeaderOutcome [] answer → answer ≡ reading.Refused 2
-unfolding first_of
-read_refused answer o = (first_given (every_call_holds.read_header_lem []) 2 refl (λ z. omega arith) answer tt o).0
+pub read_refused : (answer : Result Header Refusal) → ReadHeaderOutcome [] answer → answer ≡ Err Size
+unfolding first_of refusal_of
+read_refused answer o = (first_given (every_call_holds.read []) 2 refl (λ z. omega arith) answer tt o).0
 
-pub entry_refused : (answer : EntryAnswer) → EntryOutcome [] 1 answer → answer ≡ listing.Refused 16
-unfolding first_of length_at
+pub entry_refused : (answer : Result (Option Place) Refusal) → EntryOutcome [] 1 answer → answer ≡ Err ListPosition
+unfolding first_of refusal_of length_at
 entry_refused answer o = (first_given (every_call_holds.entry [] 1) 16 refl (λ z. omega arith) answer tt o).0
 
 -- there is one answer (`one_outcome`): no bytes of an empty list, and the level of 255
@@ -173,7 +165,7 @@ pub level_read : (r : ℤ) → LevelOutcome 255 r → r ≡ neg_ℤ (pos 6396930
 level_read r o = ((every_call_holds.level 255).one_outcome r (neg_ℤ (pos 6396930)) tt tt o refl).0
 
 -- an empty packet is never refused for want of room (`lowest`), ..
-pub never_5 : (queue : List ℕ) (sender : Sender) (answer : PutAnswer) (after : List ℕ) → PutOutcome queue sender [] answer after → put_number answer ≤ 4
+pub never_5 : (queue : List ℕ) (sender : Sender) (answer : Result Sender Refusal) (after : List ℕ) → PutOutcome queue sender [] answer after → number_in answer ≤ 4
 never_5 queue sender answer after o =
     rw ((every_call_holds.put queue sender []).number answer after o)
     ((every_call_holds.put queue sender []).lowest
@@ -182,85 +174,87 @@ never_5 queue sender answer after o =
     (4 when (eqb 0 0 || above 0 most_packet)) refl refl)
 
 -- .. and no answer has a number that is none of its table's (`number`): ..
-module _ {A B : Type 0} {Meets : A → B → Type 0} {before : B} {number_of : A → ℕ} {Refuses : A → ℕ → Type 0} {table : List Row}
-    (demand : Demand1 Meets before number_of Refuses table) where
-  never_given : (answer : A) (after : B) → (number_of answer ≡ 0 → ⊥) → among (number_of answer) (numbers_of table) ≡ false → Meets answer after → ⊥
-  never_given answer after ne none o =
-      let e = demand.number answer after o in
-      let given = first_among table (λ z. ne (e ∙ z)) in
-      false≢true (sym none ∙ subst (λ (n : ℕ). among n (numbers_of table) ≡ true) (sym e) given)
+module _ {A B : Type 0} {Meets : Result A Refusal → B → Type 0} {before : B} {table : List Row} (demand : RefusesByTable Meets before table) where
+  never_given : (n : ℕ) → (n ≡ 0 → ⊥) → among n (numbers_of table) ≡ false → (answer : Result A Refusal) (after : B) → Meets answer after
+      → number_in answer ≡ n → ⊥
+  never_given n ne none answer after o is =
+      let e = sym (demand.number answer after o) ∙ is in
+      let given = first_among table (λ z. ne (sym e ∙ z)) in
+      false≢true (sym none ∙ subst (λ (n : ℕ). among n (numbers_of table) ≡ true) e given)
 
 -- .. applying never refuses with 16, ..
 pub never_16 : (header : Header) (area : List ℕ) (receiver : Receiver) (hold list hold' list' : List ℕ)
-    → ApplyOutcome header area receiver hold list (applying.Refused 16) hold' list' → ⊥
-never_16 header area receiver hold list hold' list' =
-    never_given (every_call_holds.apply header area receiver hold list) (applying.Refused 16) (hold', list') (λ z. omega arith) refl
+    → ApplyOutcome header area receiver hold list (Err ListPosition) hold' list' → ⊥
+never_16 header area receiver hold list hold' list' o =
+    never_given (every_call_holds.apply header area receiver hold list) 16 (λ z. omega arith) refl (Err ListPosition) (hold', list') o refl
 
 -- .. and 10 is never given (02, M-100): not by open or apply, and not by read_header
-pub never_10 : (header : Header) (area : List ℕ) (receiver : Receiver) (hold list hold' list' : List ℕ)
-    → ApplyOutcome header area receiver hold list (applying.Refused 10) hold' list' → ⊥
-never_10 header area receiver hold list hold' list' =
-    never_given (every_call_holds.apply header area receiver hold list) (applying.Refused 10) (hold', list') (λ z. omega arith) refl
+pub never_10 : (header : Header) (area : List ℕ) (receiver : Receiver) (hold list : List ℕ) (answer : Result Applied Refusal) (hold' list' : List ℕ)
+    → ApplyOutcome header area receiver hold list answer hold' list' → number_in answer ≡ 10 → ⊥
+never_10 header area receiver hold list answer hold' list' =
+    never_given (every_call_holds.apply header area receiver hold list) 10 (λ z. omega arith) refl answer (hold', list')
 
-pub never_10_opened : (taps : ℕ) (frame area area' : List ℕ) → OpenOutcome taps frame area (opening.Refused 10) area' → ⊥
-never_10_opened taps frame area area' = never_given (every_call_holds.open_frame taps frame area) (opening.Refused 10) area' (λ z. omega arith) refl
+pub never_10_opened : (taps : ℕ) (frame area : List ℕ) (answer : Result Opened Refusal) (area' : List ℕ)
+    → OpenOutcome taps frame area answer area' → number_in answer ≡ 10 → ⊥
+never_10_opened taps frame area = never_given (every_call_holds.open_frame taps frame area) 10 (λ z. omega arith) refl
 
-pub never_10_read : (bytes : List ℕ) → ReadHeaderOutcome bytes (reading.Refused 10) → ⊥
-never_10_read bytes = never_given (every_call_holds.read_header_lem bytes) (reading.Refused 10) tt (λ z. omega arith) refl
+pub never_10_read : (bytes : List ℕ) (answer : Result Header Refusal) → ReadHeaderOutcome bytes answer → number_in answer ≡ 10 → ⊥
+never_10_read bytes answer = never_given (every_call_holds.read bytes) 10 (λ z. omega arith) refl answer tt
 
 -- no put refuses with 0 (`refusal`): a refusal has a number of the table
-pub never_0 : (queue : List ℕ) (sender : Sender) (packet after : List ℕ) → PutOutcome queue sender packet (putting.Refused 0) after → ⊥
-never_0 queue sender packet after o = ((every_call_holds.put queue sender packet).refusal (putting.Refused 0) 0 after o refl).0 refl
+pub never_0 : (queue : List ℕ) (sender : Sender) (packet : List ℕ) (answer : Result Sender Refusal) (after : List ℕ)
+    → PutOutcome queue sender packet answer after → RefusesWith Err answer 0 → ⊥
+never_0 queue sender packet answer after o h = ((every_call_holds.put queue sender packet).refusal answer 0 after o h).0 refl
 
 -- ---- the calls for C: the state comes back as it was given, with zeros beside it
 
 pub c_put_refused : (sender : FlatSender) (packet : List ℕ) (r : FlatPut) (after : List ℕ) → PutCall [] sender packet r after
     → r ≡ record { sender = sender; refusal = 2 }
-unfolding first_of
-c_put_refused sender packet r after o = (first_given (every_call_for_c_holds.put [] sender packet) 2 refl (λ z. omega arith) r after o).0.1
+unfolding first_of refusal_of
+c_put_refused sender packet r after o = (first_given (every_call_for_c_holds.put [] sender packet) 2 refl (λ z. omega arith) r after o).0
 
 pub c_waiting_refused : (sender : FlatSender) (r : FlatWaiting) → WaitingCall [] sender r → r ≡ record { packets = 0; bytes = 0; refusal = 2 }
-unfolding first_of
-c_waiting_refused sender r o = (first_given (every_call_for_c_holds.waiting [] sender) 2 refl (λ z. omega arith) r tt o).0.1
+unfolding first_of refusal_of
+c_waiting_refused sender r o = (first_given (every_call_for_c_holds.waiting [] sender) 2 refl (λ z. omega arith) r tt o).0
 
 pub c_next_refused : (fields : FlatFields) (sender : FlatSender) (queue out : List ℕ) (r : FlatNext) (queue' out' : List ℕ)
     → NextCall 0 fields sender queue out r queue' out' → r ≡ record { sender = sender; kind = 0; refusal = 1 }
-unfolding first_of taps_allowed
+unfolding first_of refusal_of taps_allowed
 c_next_refused fields sender queue out r queue' out' o =
-    (first_given (every_call_for_c_holds.next_frame 0 fields sender queue out) 1 refl (λ z. omega arith) r (queue', out') o).0.1
+    (first_given (every_call_for_c_holds.next_frame 0 fields sender queue out) 1 refl (λ z. omega arith) r (queue', out') o).0
 
 pub c_open_refused : (frame area : List ℕ) (r : FlatOpen) (after : List ℕ) → OpenCall 0 frame area r after → r ≡ record { header = no_header; repaired = 0; refusal = 1 }
-unfolding first_of taps_allowed
-c_open_refused frame area r after o = (first_given (every_call_for_c_holds.open_frame 0 frame area) 1 refl (λ z. omega arith) r after o).0.1
+unfolding first_of refusal_of taps_allowed
+c_open_refused frame area r after o = (first_given (every_call_for_c_holds.open_frame 0 frame area) 1 refl (λ z. omega arith) r after o).0
 
 pub c_repair_refused : (part scratch : List ℕ) (r : FlatRepair) (after : List ℕ) → RepairCall 0 part scratch r after
     → r ≡ record { repaired = 0; refusal = 1 }
-unfolding first_of taps_allowed
-c_repair_refused part scratch r after o = (first_given (every_call_for_c_holds.repair 0 part scratch) 1 refl (λ z. omega arith) r after o).0.1
+unfolding first_of refusal_of taps_allowed
+c_repair_refused part scratch r after o = (first_given (every_call_for_c_holds.repair 0 part scratch) 1 refl (λ z. omega arith) r after o).0
 
 pub c_apply_refused : (header : FlatHeader) (receiver : FlatReceiver) (hold list : List ℕ) (r : FlatApply) (hold' list' : List ℕ)
     → ApplyCall header [] receiver hold list r hold' list' → r ≡ record { receiver = receiver; packets = 0; listed = 0; missed = 0; refusal = 2 }
-unfolding first_of
+unfolding first_of refusal_of
 c_apply_refused header receiver hold list r hold' list' o =
-    (first_given (every_call_for_c_holds.apply header [] receiver hold list) 2 refl (λ z. omega arith) r (hold', list') o).0.1
+    (first_given (every_call_for_c_holds.apply header [] receiver hold list) 2 refl (λ z. omega arith) r (hold', list') o).0
 
 pub c_entry_refused : (r : FlatEntry) → EntryCall [] 1 r → r ≡ record { start = 0; length = 0; next = 0; found = 0; refusal = 16 }
-unfolding first_of length_at
-c_entry_refused r o = (first_given (every_call_for_c_holds.entry [] 1) 16 refl (λ z. omega arith) r tt o).0.1
+unfolding first_of refusal_of length_at
+c_entry_refused r o = (first_given (every_call_for_c_holds.entry [] 1) 16 refl (λ z. omega arith) r tt o).0
 
 pub c_code_refused : (header : FlatHeader) (r : FlatCode) (after : List ℕ) → CodeCall header [] r after → r ≡ record { refusal = 2 }
-unfolding first_of
-c_code_refused header r after o = (first_given (every_call_for_c_holds.code_header header []) 2 refl (λ z. omega arith) r after o).0.1
+unfolding first_of refusal_of
+c_code_refused header r after o = (first_given (every_call_for_c_holds.code_header header []) 2 refl (λ z. omega arith) r after o).0
 
 pub c_read_refused : (r : FlatRead) → ReadCall [] r → r ≡ record { header = no_header; refusal = 2 }
-unfolding first_of
-c_read_refused r o = (first_given (every_call_for_c_holds.read_header_lem []) 2 refl (λ z. omega arith) r tt o).0.1
+unfolding first_of refusal_of
+c_read_refused r o = (first_given (every_call_for_c_holds.read []) 2 refl (λ z. omega arith) r tt o).0
 
 pub c_fresh_sender : (r : FlatSender) → FreshSenderCall r → r ≡ record { start = 0; used = 0; next = 0 }
-c_fresh_sender r o = (every_call_for_c_holds.fresh_sender_lem.one_outcome r _ tt tt o refl).0
+c_fresh_sender r o = (every_call_for_c_holds.sender_begins.one_outcome r _ tt tt o refl).0
 
 pub c_fresh_receiver : (r : FlatReceiver) → FreshReceiverCall r → r ≡ record { held = 0; expected = 0; expects = 0 }
-c_fresh_receiver r o = (every_call_for_c_holds.fresh_receiver_lem.one_outcome r _ tt tt o refl).0
+c_fresh_receiver r o = (every_call_for_c_holds.receiver_begins.one_outcome r _ tt tt o refl).0
 
 pub c_packet_one : (list : List ℕ) (position : ℕ) (r₁ r₂ : FlatPacket) → PacketCall list position r₁ → PacketCall list position r₂ → r₁ ≡ r₂
 c_packet_one list position r₁ r₂ o₁ o₂ = ((every_call_for_c_holds.packet list position).one_outcome r₁ r₂ tt tt o₁ o₂).0

@@ -14,7 +14,9 @@ use Rattle.basics.specs.Lists.{zeros, Bytes, entries}
 use Rattle.basics.specs.Sizes.{queue_size}
 use Rattle.basics.specs.Numbers.{digit, number}
 use Rattle.basics.proofs.Lists.{zeros_length, zeros_bytes}
+use Rattle.std.specs.Prelude.{Result, Ok}
 use Rattle.refusals.specs.Table.{first_of}
+use Rattle.refusals.specs.declared.Refusal.{Refusal}
 use Rattle.lent.proofs.Written.{written_whole}
 use Rattle.scrambler.specs.Scrambler.{taps_allowed, sum_below, bit, key_byte, scrambled}
 use Rattle.scrambler.proofs.Stages.{sum_ext}
@@ -25,13 +27,11 @@ use Rattle.header.specs.declared.FrameKind.{FrameKind}
 use Rattle.header.specs.declared.FrameKind.TheVariants.{Idle, Data}
 use Rattle.header.specs.declared.Header.{Header}
 use Rattle.header_reading.specs.Reading.{header_of, reserved_in, read_refusal, read_header}
-use Rattle.header_reading.specs.declared.ReadAnswer.TheVariants.{Read}
 use Rattle.frame.specs.Frame.{frame_bytes, frame_bytes_with}
 use Rattle.frame.proofs.Laws.{frame_length}
 use Rattle.opening.specs.Opening.{open_refusal, opened_reserved, OpenOutcome}
 use Rattle.opening.specs.NearFrame.{NearFrame}
-use Rattle.opening.specs.declared.OpenAnswer.{OpenAnswer}
-use Rattle.opening.specs.declared.OpenAnswer.TheVariants.{Opened}
+use Rattle.opening.specs.declared.Opened.{Opened}
 use Rattle.opening.proofs.NearFrame.{near_own}
 use Rattle.nearest.proofs.Nearness.{differences_self}
 use Rattle.link.specs.Link.{Piece, Queue, empty}
@@ -45,13 +45,12 @@ use Rattle.sender.specs.Put.{fresh_sender}
 use Rattle.sender.specs.Waiting.{counted, WaitingOutcome}
 use Rattle.sender.proofs.Counts.{whole_counted}
 use Rattle.sender.specs.declared.Sender.{Sender}
-use Rattle.sender.specs.declared.WaitingAnswer.{WaitingAnswer}
-use Rattle.sender.specs.declared.WaitingAnswer.TheVariants.{Waiting}
+use Rattle.sender.specs.declared.Counted.{Counted}
 use Rattle.sending.specs.Next.{NextOutcome}
-use Rattle.sending.specs.declared.NextAnswer.TheVariants.{Sent}
+use Rattle.sending.specs.declared.Sent.{Sent}
 use Rattle.receiver.specs.Applying.{fresh_receiver, apply_refusal, ApplyOutcome}
 use Rattle.receiver.specs.declared.Receiver.{Receiver}
-use Rattle.receiver.specs.declared.ApplyAnswer.TheVariants.{Applied}
+use Rattle.receiver.specs.declared.Applied.{Applied}
 use Rattle.list.specs.Entries.{packets_read}
 use Rattle.demands.specs.Cases.{idle}
 use Rattle.demands.specs.Demand2.{HoldsQueue}
@@ -60,14 +59,14 @@ use Rattle.demands.proofs.Demand2.{demand2_holds}
 -- ---- the header
 
 -- the p case's header is read back from its bytes, and from those of a maker that clears every reserved bit
-pub idle_back : read_header (header_bytes idle) ≡ Read idle
+pub idle_back : read_header (header_bytes idle) ≡ Ok idle
 unfolding fields_fit
 idle_back = demand2_holds.header_back all_ones idle refl
 
 abbrev pub all_cleared : ReservedBits
 all_cleared = record { d4 = 0; d10 = 0; d11 = 0 }
 
-pub cleared_back : read_header (header_bytes_with all_cleared idle) ≡ Read idle
+pub cleared_back : read_header (header_bytes_with all_cleared idle) ≡ Ok idle
 unfolding fields_fit
 cleared_back = demand2_holds.header_back all_cleared idle refl
 
@@ -144,15 +143,16 @@ fresh_waits queue = demand2_holds.queue_waits queue 0 0 empty (nothing_waits que
 -- what `waiting` counts is the packets whose layout the used bytes are: ..
 pub waiting_told : (queue : List ℕ) (sender : Sender) (waiting : Queue) → Bytes queue → length queue ≡ queue_size
     → HoldsQueue queue sender.start sender.used waiting
-    → (answer : WaitingAnswer) → WaitingOutcome queue sender answer → answer ≡ Waiting (packet_count waiting) (byte_count waiting)
+    → (answer : Result Counted Refusal) → WaitingOutcome queue sender answer
+    → answer ≡ Ok (record { packets = packet_count waiting; bytes = byte_count waiting })
 waiting_told queue sender waiting bytes size holds answer o =
     let whole = (demand2_holds.queue_exactly queue sender.start sender.used bytes).1 (waiting, holds) in
-    o ∙ sym (whole_counted queue sender size whole) ∙ ap counted (demand2_holds.queue_waits queue sender.start sender.used waiting holds)
+    o ∙ sym (whole_counted queue sender size whole) ∙ ap (λ (q : Queue). Ok (counted q)) (demand2_holds.queue_waits queue sender.start sender.used waiting holds)
 
 -- .. two packets and five bytes where three bytes of one that is begun and two of another wait
 pub begun_told : (queue : List ℕ) (sender : Sender) → Bytes queue → length queue ≡ queue_size
     → HoldsQueue queue sender.start sender.used (record { rest = some (1 ∷ 2 ∷ 3 ∷ []); waiting = (4 ∷ 5 ∷ []) ∷ [] })
-    → (answer : WaitingAnswer) → WaitingOutcome queue sender answer → answer ≡ Waiting 2 5
+    → (answer : Result Counted Refusal) → WaitingOutcome queue sender answer → answer ≡ Ok (record { packets = 2; bytes = 5 })
 begun_told queue sender = waiting_told queue sender (record { rest = some (1 ∷ 2 ∷ 3 ∷ []); waiting = (4 ∷ 5 ∷ []) ∷ [] })
 
 -- ---- the area
@@ -199,22 +199,24 @@ zeros_unread pieces e = no_zeros pieces ((demand2_holds.area_exactly (zeros 1908
 -- ---- the frame
 
 -- an IDLE frame that is built, whatever its reserved bits, is opened to its header, and no byte of it is wrong
-pub idle_opened : (taps : ℕ) (reserved : ReservedBits) (before : List ℕ) (answer : OpenAnswer) (after : List ℕ) → taps_allowed taps ≡ true → 1908 ≤ length before
-    → OpenOutcome taps (frame_bytes_with taps reserved idle (zeros 1908)) before answer after → answer ≡ Opened idle 0
+pub idle_opened : (taps : ℕ) (reserved : ReservedBits) (before : List ℕ) (answer : Result Opened Refusal) (after : List ℕ)
+    → taps_allowed taps ≡ true → 1908 ≤ length before → OpenOutcome taps (frame_bytes_with taps reserved idle (zeros 1908)) before answer after
+    → answer ≡ Ok (record { header = idle; repaired = 0 })
 unfolding fields_fit
 idle_opened taps reserved before answer after allowed room o =
     let frame = frame_bytes_with taps reserved idle (zeros 1908) in
     (demand2_holds.frame_back taps reserved idle (zeros 1908) frame before answer after allowed refl (zeros_length 1908) (zeros_bytes 1908) room
     (near_own frame (frame_length reserved idle taps (zeros 1908) (zeros_length 1908))) o).0
-    ∙ ap (Opened idle) (differences_self frame)
+    ∙ ap (λ (n : ℕ). Ok (record { header = idle; repaired = n })) (differences_self frame)
 
 -- two accepted frames that are opened to one header and one area, and have the same reserved bits, are near one frame
 pub one_frame : (taps : ℕ) (a b before : List ℕ) (header : Header) (n m : ℕ) (after : List ℕ) → length before ≡ 1908
-    → OpenOutcome taps a before (Opened header n) after → OpenOutcome taps b before (Opened header m) after
+    → OpenOutcome taps a before (Ok (record { header = header; repaired = n })) after
+    → OpenOutcome taps b before (Ok (record { header = header; repaired = m })) after
     → opened_reserved taps a ≡ opened_reserved taps b → (frame : List ℕ) × (NearFrame a frame × NearFrame b frame)
 one_frame taps a b before header n m after long oa ob bits =
-    let fa = demand2_holds.frame_again taps a before header n after oa in
-    let fb = demand2_holds.frame_again taps b before header m after ob in
+    let fa = demand2_holds.frame_again taps a before (record { header = header; repaired = n }) after oa in
+    let fb = demand2_holds.frame_again taps b before (record { header = header; repaired = m }) after ob in
     let area-a : after ≡ fa.0 = fa.1.4 ∙ written_whole before fa.0 (fa.1.2 ∙ sym long) in
     let area-b : after ≡ fb.0 = fb.1.4 ∙ written_whole before fb.0 (fb.1.2 ∙ sym long) in
     let same : frame_bytes_with taps (opened_reserved taps b) header fb.0 ≡ frame_bytes_with taps (opened_reserved taps a) header fa.0 =
@@ -229,21 +231,21 @@ first_header kind fields = record { txfn = record { 0 = 0 }; kind = kind; fields
 
 module _ (taps : ℕ) (fields : Fields) (sender : Sender) (queue out : List ℕ) (kind : FrameKind) (queue' out' : List ℕ) where
   -- a fresh sender sends IDLE with zeros, ..
-  pub idle_sent : NextOutcome taps fields fresh_sender queue out (Sent sender kind) queue' out'
+  pub idle_sent : NextOutcome taps fields fresh_sender queue out (Ok (record { sender = sender; kind = kind })) queue' out'
       → (kind ≡ Idle) × (take 2081 out' ≡ frame_bytes taps (first_header Idle fields) (zeros 1908))
   idle_sent o =
-      let s = demand2_holds.sends taps fields fresh_sender sender queue out kind queue' out' (omega arith) o in
+      let s = demand2_holds.sends taps fields fresh_sender queue out (record { sender = sender; kind = kind }) queue' out' (omega arith) o in
       let i = s.idle_frame (rw (fresh_waits queue) refl) in
       (i.0, s.coded ∙ λ j. frame_bytes taps (first_header (i.0 j) fields) (i.1 j))
 
   -- .. and one with packet AA in its queue DATA with C0 01 AA
   pub packet_sent : (used : ℕ) → waiting_in queue 0 used ≡ one_waiting
-      → NextOutcome taps fields (record { start = 0; used = used; next = record { 0 = 0 } }) queue out (Sent sender kind) queue' out'
+      → NextOutcome taps fields (record { start = 0; used = used; next = record { 0 = 0 } }) queue out (Ok (record { sender = sender; kind = kind })) queue' out'
       → (kind ≡ Data) × (take 2081 out' ≡ frame_bytes taps (first_header Data fields) packet_area)
   unfolding fill_waiting
   packet_sent used waits o =
       let before : Sender = record { start = 0; used = used; next = record { 0 = 0 } } in
-      let s = rw waits at (demand2_holds.sends taps fields before sender queue out kind queue' out' (omega arith) o) in
+      let s = rw waits at (demand2_holds.sends taps fields before queue out (record { sender = sender; kind = kind }) queue' out' (omega arith) o) in
       let d = s.data_frame refl in
       (d.0, s.coded ∙ λ j. frame_bytes taps (first_header (d.0 j) fields) (d.1.laid j))
 
@@ -271,7 +273,7 @@ idle_accepted taps reserved fields buffer allowed fit room =
         near = near_own (frame_bytes_with taps reserved (first_header Idle fields) (zeros 1908))
             (frame_length reserved (first_header Idle fields) taps (zeros 1908) (zeros_length 1908));
         may_be_sent = fit;
-        area_size_lem = zeros_length 1908;
+        area_sized = zeros_length 1908;
         area_bytes = zeros_bytes 1908;
       },
     )
@@ -282,11 +284,11 @@ module _ (fields : Fields) (hold list : List ℕ) where
   -- an IDLE frame is applied whatever its area, ..
   pub idle_applied : (area : List ℕ) → Bytes area → length area ≡ 1908 → length hold ≡ 9000 → 10907 ≤ length list → fields_fit fields ≡ true
       → apply_refusal (first_header Idle fields) area fresh_receiver hold list ≡ 0
-  idle_applied area bytes long hold_size_lem list_size_lem fit =
+  idle_applied area bytes long hold_sized list_sized fit =
       (demand2_holds.applies_exactly (first_header Idle fields) area fresh_receiver hold list bytes).1 (record {
-        area_size_lem = long;
-        hold_size_lem = hold_size_lem;
-        list_size_lem = list_size_lem;
+        area_sized = long;
+        hold_sized = hold_sized;
+        list_sized = list_sized;
         held = omega arith;
         may_be_sent = fit;
         pieces = [];
@@ -301,9 +303,9 @@ module _ (fields : Fields) (hold list : List ℕ) where
       no_zeros f.pieces (f.has.data_frame refl)
 
   -- .. and packet AA in the area comes out as packet AA
-  pub packet_listed : (missed packets listed : ℕ) (after : Receiver) (hold' list' : List ℕ)
-      → ApplyOutcome (first_header Data fields) packet_area fresh_receiver hold list (Applied missed packets listed after) hold' list'
-      → (packets_read (take listed list') ≡ some ((0xAA ∷ []) ∷ [])) × (packets ≡ 1)
+  pub packet_listed : (applied : Applied) (hold' list' : List ℕ)
+      → ApplyOutcome (first_header Data fields) packet_area fresh_receiver hold list (Ok applied) hold' list'
+      → (packets_read (take applied.listed list') ≡ some ((0xAA ∷ []) ∷ [])) × (applied.packets ≡ 1)
   packet_listed =
       demand2_holds.list_back (first_header Data fields) packet_area fresh_receiver hold list packet_pieces
       (record { data_frame = λ e. packet_allowed; other_frame = λ e. absurd (false≢true (sym e)) })

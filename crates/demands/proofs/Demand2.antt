@@ -9,9 +9,11 @@ use borrow.Author.Tests.{lt-ltb}
 use Rattle.basics.specs.Lists.{Bytes}
 use Rattle.basics.specs.Sizes.{area_size}
 use Rattle.basics.proofs.Tests.{both_true}
-use Rattle.refusals.specs.Table.{first_of}
+use Rattle.std.specs.Prelude.{Result, Ok}
+use Rattle.refusals.specs.Table.{first_of, by}
+use Rattle.refusals.specs.declared.Refusal.{Refusal}
 use Rattle.lent.specs.Written.{written}
-use Rattle.refusals.proofs.Table.{accepted}
+use Rattle.refusals.proofs.Numbers.{stands}
 use Rattle.lent.proofs.Written.{written_front}
 use Rattle.scrambler.specs.Scrambler.{taps_allowed}
 use Rattle.scrambler.proofs.Laws.{scrambled_length}
@@ -25,12 +27,10 @@ use Rattle.frame.specs.Frame.{frame_bytes, frame_bytes_with}
 use Rattle.frame.proofs.Laws.{frame_length}
 use Rattle.opening.specs.Opening.{open_refusal, opened_header, opened_reserved, opened_area, OpenOutcome}
 use Rattle.opening.specs.NearFrame.{NearFrame}
-use Rattle.opening.specs.declared.OpenAnswer.TheVariants.{Opened}
+use Rattle.opening.specs.declared.Opened.{Opened}
 use Rattle.opening.proofs.Laws.{open_passed}
 use Rattle.nearest.specs.Near.{differences}
 use Rattle.repairing.specs.Repairing.{repaired, repair_refusal, RepairOutcome, shown_bytes}
-use Rattle.repairing.specs.declared.RepairAnswer.{RepairAnswer}
-use Rattle.repairing.specs.declared.RepairAnswer.TheVariants.{Repaired}
 use Rattle.repairing.proofs.Laws.{Ready, repair_passed}
 use Rattle.repairing.proofs.Theorems.{repaired_is_coded, repaired_is_near, near_repaired, sent_shown}
 use Rattle.opening.proofs.Built.{near_accepted}
@@ -45,11 +45,11 @@ use Rattle.packing.proofs.Allowed.{read_iff, read_allowed, allowed_read}
 use Rattle.packing.proofs.Bench.{area_allowed, area_idle, area_length}
 use Rattle.sending.specs.Next.{kind_for, area_for, header_for, sender_after, next_refusal, NextOutcome}
 use Rattle.sender.specs.declared.Sender.{Sender}
-use Rattle.sending.specs.declared.NextAnswer.TheVariants.{Sent}
+use Rattle.sending.specs.declared.Sent.{Sent}
 use Rattle.sending.proofs.Sending.{next_passed, sent_so}
 use Rattle.receiver.specs.Applying.{is_data, pieces_of, held_part, area_table, apply_refusal, ApplyOutcome}
 use Rattle.receiver.specs.declared.Receiver.{Receiver}
-use Rattle.receiver.specs.declared.ApplyAnswer.TheVariants.{Applied}
+use Rattle.receiver.specs.declared.Applied.{Applied}
 use Rattle.receiver.proofs.Tables.{read_as, area_passed, data_records, other_records}
 use Rattle.receiver.proofs.Machine.{joined_pieces}
 use Rattle.receiver.proofs.Laws.{apply_passed, apply_pass}
@@ -70,10 +70,10 @@ module _ (queue : List ℕ) (start used : ℕ) where
 
 -- ---- next_frame
 
-sends_so : (taps : ℕ) (fields : Fields) (sender sender' : Sender) (queue out : List ℕ) (kind : FrameKind) (queue' out' : List ℕ) → sender.next.0 < 65536
-    → NextOutcome taps fields sender queue out (Sent sender' kind) queue' out'
-    → SentFrame taps fields sender (waiting_in queue sender.start sender.used) kind (take 2081 out')
-sends_so taps fields sender sender' queue out kind queue' out' small o =
+sends_so : (taps : ℕ) (fields : Fields) (sender : Sender) (queue out : List ℕ) (sent : Sent) (queue' out' : List ℕ) → sender.next.0 < 65536
+    → NextOutcome taps fields sender queue out (Ok sent) queue' out'
+    → SentFrame taps fields sender (waiting_in queue sender.start sender.used) sent.kind (take 2081 out')
+sends_so taps fields sender queue out sent queue' out' small o =
     let start = sender.start in
     let used = sender.used in
     let waiting = waiting_in queue start used in
@@ -115,8 +115,8 @@ module _ (taps : ℕ) (part : List ℕ) where
     repairs : repair_refusal taps part scratch ≡ 0
     repairs = near_repaired taps part sent scratch ready sent_size to.coded to.near
 
-    shows : (answer : RepairAnswer) (after : List ℕ) → RepairOutcome taps part scratch answer after
-        → (answer ≡ Repaired (differences part sent)) × (shown_bytes answer part after ≡ sent)
+    shows : (answer : Result ℕ Refusal) (after : List ℕ) → RepairOutcome taps part scratch answer after
+        → (answer ≡ Ok (differences part sent)) × (shown_bytes answer part after ≡ sent)
     shows = sent_shown taps part sent scratch ready sent_size to.coded to.near
 
 -- ---- open
@@ -134,7 +134,7 @@ module _ (taps : ℕ) (frame buffer : List ℕ) where
           area = opened_area taps frame;
           near = accepted_near taps frame whole passed.1;
           may_be_sent = accepted_fits taps frame whole passed.1;
-          area_size_lem = accepted_area taps frame whole passed.1;
+          area_sized = accepted_area taps frame whole passed.1;
           area_bytes = accepted_bytes taps frame whole passed.1;
         },
       )
@@ -142,7 +142,7 @@ module _ (taps : ℕ) (frame buffer : List ℕ) where
   opens : (taps_allowed taps ≡ true) × (area_size ≤ length buffer) × Openable taps frame → open_refusal taps frame buffer ≡ 0
   opens h =
       let f = h.2 in
-      near_accepted taps f.reserved f.header f.area f.area_size_lem f.area_bytes frame f.near buffer h.0 f.may_be_sent h.1
+      near_accepted taps f.reserved f.header f.area f.area_sized f.area_bytes frame f.near buffer h.0 f.may_be_sent h.1
 
 -- ---- apply
 
@@ -167,9 +167,9 @@ module _ (header : Header) (area : List ℕ) (receiver : Receiver) (hold list : 
       let buffers = passed.buffers in
       let t = area_passed part (pieces_of header.kind area) passed.read in
       record {
-        area_size_lem = buffers.sized;
-        hold_size_lem = buffers.long;
-        list_size_lem = buffers.room;
+        area_sized = buffers.sized;
+        hold_sized = buffers.long;
+        list_sized = buffers.room;
         held = buffers.most;
         may_be_sent = passed.fits;
         pieces = t.pieces;
@@ -183,27 +183,26 @@ module _ (header : Header) (area : List ℕ) (receiver : Receiver) (hold list : 
   applies : Applicable header area receiver hold list → apply_refusal header area receiver hold list ≡ 0
   applies f =
       apply_pass header area receiver hold list (record {
-        buffers = record { sized = f.area_size_lem; long = f.hold_size_lem; room = f.list_size_lem; most = f.held };
+        buffers = record { sized = f.area_sized; long = f.hold_sized; room = f.list_sized; most = f.held };
         fits = f.may_be_sent;
         read = (λ j. first_of (area_table part (pieces_read header area f.pieces f.has j))) ∙ read_as part f.pieces ∙ rw f.joined refl;
       })
 
-  list_back_so : (pieces : List Piece) → HasPieces header area pieces → (missed packets listed : ℕ) (after : Receiver) (hold' list' : List ℕ)
-      → ApplyOutcome header area receiver hold list (Applied missed packets listed after) hold' list'
-      → (packets_read (take listed list') ≡ some (on_pieces part pieces).out) × (packets ≡ length (on_pieces part pieces).out)
-  list_back_so pieces has missed packets listed after hold' list' o =
+  list_back_so : (pieces : List Piece) → HasPieces header area pieces → (applied : Applied) (hold' list' : List ℕ)
+      → ApplyOutcome header area receiver hold list (Ok applied) hold' list'
+      → (packets_read (take applied.listed list') ≡ some (on_pieces part pieces).out) × (applied.packets ≡ length (on_pieces part pieces).out)
+  list_back_so pieces has applied hold' list' o =
       rw (← joined_pieces header area receiver hold pieces (pieces_read header area pieces has))
-      (apply_read header area receiver hold list missed packets listed after hold' list' o)
+      (apply_read header area receiver hold list applied hold' list' o)
 
 -- ---- the demand
 
-frame_again_so : (taps : ℕ) (frame before : List ℕ) (header : Header) (repaired : ℕ) (after : List ℕ)
-    → OpenOutcome taps frame before (Opened header repaired) after
-    → (area : List ℕ) × (NearFrame frame (frame_bytes_with taps (opened_reserved taps frame) header area) × (header_fits header ≡ true)
+frame_again_so : (taps : ℕ) (frame before : List ℕ) (opened : Opened) (after : List ℕ) → OpenOutcome taps frame before (Ok opened) after
+    → (area : List ℕ) × (NearFrame frame (frame_bytes_with taps (opened_reserved taps frame) opened.header area) × (header_fits opened.header ≡ true)
     × (length area ≡ 1908) × Bytes area × (after ≡ written before 0 area)
-    × (repaired ≡ differences frame (frame_bytes_with taps (opened_reserved taps frame) header area)))
-frame_again_so taps frame before header repaired after o =
-    let b = near_of_open taps frame before header repaired after o in
+    × (opened.repaired ≡ differences frame (frame_bytes_with taps (opened_reserved taps frame) opened.header area)))
+frame_again_so taps frame before opened after o =
+    let b = near_of_open taps frame before opened after o in
     (opened_area taps frame, (b.0.near, b.0.may_be_sent, b.0.long, b.0.bytes, b.1, b.0.counted))
 
 scrambles : (taps : ℕ) → Scrambles taps

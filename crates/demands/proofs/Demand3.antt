@@ -32,4 +32,4 @@ demand3_holds taps queue hold calls fates h =
     learns : learned fates ≡ deliver (marks fates) 0 fresh pieces
     learns =
         hears taps h.allowed (marks fates) fates 0 fresh_receiver hold fresh (frames_sent calls) pieces (λ k. rw zero-add)
-        (fresh_holds hold h.hold_size_lem) sound.carried h.came
+        (fresh_holds hold h.hold_sized) sound.carried h.came

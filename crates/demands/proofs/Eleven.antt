@@ -7,18 +7,21 @@ use Prim.Native.Nat.{ℕ}
 use native.Mathlib.Omega.{arith}
 use lib.ListN.{length}
 use borrow.Author.Tests.{eq-eqb}
+use Rattle.std.specs.Prelude.{Result, Ok, Err}
+use Rattle.refusals.specs.Numbers.{number_of}
 use Rattle.refusals.specs.Table.{Row, ◌unless◌, first_of}
+use Rattle.refusals.specs.declared.Refusal.{Refusal}
+use Rattle.refusals.specs.declared.Refusal.TheVariants.{ReceivedField}
+use Rattle.refusals.proofs.Numbers.{number_positive}
 use Rattle.refusals.proofs.Table.{numbers_of}
 use Rattle.header.specs.Header.{fields_fit, header_fits}
 use Rattle.header.specs.Calls.{code_refusal}
 use Rattle.header.specs.declared.Header.{Header}
 use Rattle.opening.specs.Opening.{OpenOutcome}
-use Rattle.opening.specs.declared.OpenAnswer.{OpenAnswer}
-use Rattle.opening.specs.declared.OpenAnswer.TheVariants as opening
+use Rattle.opening.specs.declared.Opened.{Opened}
 use Rattle.receiver.specs.Applying.{pieces_of, held_part, buffers_table, area_table, apply_refusal, ApplyOutcome}
 use Rattle.receiver.specs.declared.Receiver.{Receiver}
-use Rattle.receiver.specs.declared.ApplyAnswer.{ApplyAnswer}
-use Rattle.receiver.specs.declared.ApplyAnswer.TheVariants as applying
+use Rattle.receiver.specs.declared.Applied.{Applied}
 use Rattle.receiver.proofs.Tables.{BuffersPassed}
 use Rattle.receiver.proofs.Laws.{apply_numbers, by_opened}
 use Rattle.flat.specs.Answers.{flat_open, flat_apply}
@@ -30,7 +33,6 @@ use Rattle.flat.specs.declared.states.FlatReceiver.{FlatReceiver}
 use Rattle.flat.proofs.Back.{header_through_c}
 use Rattle.taqwelim.specs.Calls.{OpenCall, ApplyCall}
 use Rattle.demands.proofs.Outcomes.{among, first_among, left_out}
-use Rattle.demands.proofs.Demand1.{every_call_holds}
 use Rattle.demands.proofs.Demand2.{demand2_holds}
 
 module _ (header : Header) (area : List ℕ) (receiver : Receiver) (hold list : List ℕ) where
@@ -67,10 +69,11 @@ module _ (header : Header) (area : List ℕ) (receiver : Receiver) (hold list : 
     unasked_rxfn valid rxfn = misfit_given (simp (valid, rxfn, and-false))
 
   -- whatever `open` answered is never refused with 11, whatever it is applied to
-  pub never_11 : (taps : ℕ) (frame buffer : List ℕ) (repaired : ℕ) (after : List ℕ) → OpenOutcome taps frame buffer (opening.Opened header repaired) after
-      → (hold' list' : List ℕ) → ApplyOutcome header area receiver hold list (applying.Refused 11) hold' list' → ⊥
+  pub never_11 : (taps : ℕ) (frame buffer : List ℕ) (repaired : ℕ) (after : List ℕ)
+      → OpenOutcome taps frame buffer (Ok (record { header = header; repaired = repaired })) after
+      → (hold' list' : List ℕ) → ApplyOutcome header area receiver hold list (Err ReceivedField) hold' list' → ⊥
   never_11 taps frame buffer repaired after opened hold' list' applied =
-      fitting_never (demand2_holds.frame_again taps frame buffer header repaired after opened).1.1 (sym (apply_numbers applied))
+      fitting_never (demand2_holds.frame_again taps frame buffer (record { header = header; repaired = repaired }) after opened).1.1 (sym (apply_numbers applied))
 
 -- and in C, where the header goes out as numbers and comes back
 pub c_never_11 : (taps : ℕ) (frame buffer after : List ℕ) (opened : FlatOpen) → OpenCall taps frame buffer opened after → opened.refusal ≡ 0
@@ -79,16 +82,15 @@ pub c_never_11 : (taps : ℕ) (frame buffer after : List ℕ) (opened : FlatOpen
 c_never_11 taps frame buffer after opened o none area receiver hold list applied hold' list' a eleven =
     go o.answer o.outcome o.flat a.answer a.outcome a.flat
   where
-    go : (answer : OpenAnswer) → OpenOutcome taps frame buffer answer after → opened ≡ flat_open answer
-        → (next : ApplyAnswer) → ApplyOutcome (header_of opened.header) area (receiver_of receiver) hold list next hold' list'
+    go : (answer : Result Opened Refusal) → OpenOutcome taps frame buffer answer after → opened ≡ flat_open answer
+        → (next : Result Applied Refusal) → ApplyOutcome (header_of opened.header) area (receiver_of receiver) hold list next hold' list'
         → applied ≡ flat_apply receiver next → ⊥
-    go (opening.Refused number) outcome e next applies f =
-        ((every_call_holds.open_frame taps frame buffer).refusal (opening.Refused number) number after outcome refl).0
-        (sym (ap (λ (r : FlatOpen). r.refusal) e) ∙ none)
-    go (opening.Opened header repaired) outcome e (applying.Applied missed packets listed state) applies f =
+    go (Err refusal) outcome e next applies f =
+        let z : number_of refusal ≡ 0 = sym (ap (λ (r : FlatOpen). r.refusal) e) ∙ none in omega (arith, number_positive refusal)
+    go (Ok given) outcome e (Ok done) applies f =
         let z : ◌≡◌ {A = ℕ} 0 11 = sym (ap (λ (r : FlatApply). r.refusal) f) ∙ eleven in omega arith
-    go (opening.Opened header repaired) outcome e (applying.Refused number) applies f =
-        let fit = (demand2_holds.frame_again taps frame buffer header repaired after outcome).1.1 in
-        let same : header_of opened.header ≡ header = ap (λ (r : FlatOpen). header_of r.header) e ∙ header_through_c header fit in
-        let is : number ≡ 11 = sym (ap (λ (r : FlatApply). r.refusal) f) ∙ eleven in
-        never_11 header area (receiver_of receiver) hold list taps frame buffer repaired after outcome hold' list' (rw (same, is) at applies)
+    go (Ok given) outcome e (Err refusal) applies f =
+        let fit = (demand2_holds.frame_again taps frame buffer given after outcome).1.1 in
+        let same : header_of opened.header ≡ given.header = ap (λ (r : FlatOpen). header_of r.header) e ∙ header_through_c given.header fit in
+        let is : number_of refusal ≡ 11 = sym (ap (λ (r : FlatApply). r.refusal) f) ∙ eleven in
+        fitting_never given.header area (receiver_of receiver) hold list fit (sym (apply_numbers (rw same at applies)) ∙ is)

@@ -12,7 +12,10 @@ use lib.ListN.{length, replicate}
 use borrow.Author.Tests.{eq-eqb}
 use Rattle.basics.specs.Lists.{zeros, Bytes}
 use Rattle.basics.specs.Sizes.{area_size, frame_size, queue_size, hold_size, list_size}
+use Rattle.std.specs.Prelude.{Err}
+use Rattle.refusals.specs.Numbers.{refusal_of}
 use Rattle.refusals.specs.Table.{first_of, by}
+use Rattle.refusals.specs.declared.Refusal.TheVariants.{PacketLength}
 use Rattle.scrambler.specs.Scrambler.{taps_allowed}
 use Rattle.header.specs.Header.{fields_fit}
 use Rattle.header.specs.declared.Fields.{Fields}
@@ -26,7 +29,6 @@ use Rattle.packing.specs.Filling.{fill_waiting}
 use Rattle.packing.proofs.Filling.{load}
 use Rattle.marks.specs.Queue.{is_ring_whole}
 use Rattle.sender.specs.Put.{fresh_sender, put_refusal, PutOutcome}
-use Rattle.sender.specs.declared.PutAnswer.TheVariants as putting
 use Rattle.sender.proofs.Stands.{fresh_stands}
 use Rattle.receiver.specs.Applying.{fresh_receiver}
 use Rattle.demands.specs.Demand3.{SenderCall, call_put, SenderCalls, frames_sent, queue_left, pieces_carried, Fate, marks, learned, History, Promise}
@@ -44,9 +46,9 @@ same_bytes byte small zero = tt
 same_bytes byte small (suc n) = (small, same_bytes byte small n)
 
 module _ (taps : ℕ) (allowed : taps_allowed taps ≡ true) (fields : Fields) (fit : fields_fit fields ≡ true) (out : List ℕ) (out_size : frame_size ≤ length out)
-    (area : List ℕ) (area_size_lem : area_size ≤ length area) (list : List ℕ) (list_size_lem : list_size ≤ length list)
+    (area : List ℕ) (area_sized : area_size ≤ length area) (list : List ℕ) (list_sized : list_size ≤ length list)
     (queue : List ℕ) (queue_bytes : Bytes queue) (queue-size : length queue ≡ queue_size)
-    (hold : List ℕ) (hold_size_lem : length hold ≡ hold_size) where
+    (hold : List ℕ) (hold_sized : length hold ≡ hold_size) where
   abbrev inputs : List Input
   inputs =
       give_packet (0xAA ∷ []) (omega arith, tt)
@@ -60,10 +62,10 @@ module _ (taps : ℕ) (allowed : taps_allowed taps ≡ true) (fields : Fields) (
       ∷ []
 
   abbrev pub calls : List SenderCall
-  calls = call_put [] (putting.Refused 4) queue ∷ run taps allowed fresh_sender queue inputs
+  calls = call_put [] (Err PacketLength) queue ∷ run taps allowed fresh_sender queue inputs
 
   abbrev as_sent : Way
-  as_sent = pass (λ frame. frame) near_own area list area_size_lem list_size_lem
+  as_sent = pass (λ frame. frame) near_own area list area_sized list_sized
 
   abbrev pub ways : List Way
   ways = as_sent ∷ lose ∷ spoil (zeros frame_size) area list ∷ as_sent ∷ []
@@ -71,8 +73,8 @@ module _ (taps : ℕ) (allowed : taps_allowed taps ≡ true) (fields : Fields) (
   abbrev pub fates : List Fate
   fates = fates_of taps fresh_receiver hold ways (frames_sent calls)
 
-  nothing_put : PutOutcome queue fresh_sender [] (putting.Refused 4) queue
-  unfolding put_refusal first_of is_ring_whole is_whole parse packets_in by
+  nothing_put : PutOutcome queue fresh_sender [] (Err PacketLength) queue
+  unfolding put_refusal first_of is_ring_whole is_whole parse packets_in by refusal_of
   nothing_put = record { answer = rw (eq-eqb (length queue) 32768 queue-size); bytes = rw (eq-eqb (length queue) 32768 queue-size) }
 
   calls_met : SenderCalls taps fresh_sender queue calls
@@ -105,7 +107,7 @@ module _ (taps : ℕ) (allowed : taps_allowed taps ≡ true) (fields : Fields) (
 
   -- it is a history ..
   pub history : History taps queue hold calls fates
-  history = history_of taps allowed queue queue_bytes hold hold_size_lem ways (omega arith) calls calls_met
+  history = history_of taps allowed queue queue_bytes hold hold_sized ways (omega arith) calls calls_met
 
   promise : Promise taps queue calls fates
   promise = demand3_holds taps queue hold calls fates history

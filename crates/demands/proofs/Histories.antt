@@ -9,6 +9,8 @@ use native.Mathlib.Omega.{arith}
 use lib.ListN.{length, take}
 use Rattle.basics.specs.Lists.{Bytes}
 use Rattle.basics.specs.Sizes.{area_size, frame_size, hold_size, list_size}
+use Rattle.std.specs.Prelude.{Result, Ok, Err}
+use Rattle.refusals.specs.declared.Refusal.{Refusal}
 use Rattle.scrambler.specs.Scrambler.{taps_allowed}
 use Rattle.header.specs.declared.Fields.{Fields}
 use Rattle.link.specs.Ledger.{Mark, lost, accepted, Limit}
@@ -16,12 +18,10 @@ use Rattle.sender.specs.Put.{fresh_sender}
 use Rattle.sender.specs.declared.Sender.{Sender}
 use Rattle.sender.proofs.Stands.{fresh_stands}
 use Rattle.opening.specs.NearFrame.{NearFrame}
-use Rattle.opening.specs.declared.OpenAnswer.{OpenAnswer}
-use Rattle.opening.specs.declared.OpenAnswer.TheVariants as opening
+use Rattle.opening.specs.declared.Opened.{Opened}
 use Rattle.receiver.specs.Applying.{fresh_receiver, receiver_after}
 use Rattle.receiver.specs.declared.Receiver.{Receiver}
-use Rattle.receiver.specs.declared.ApplyAnswer.{ApplyAnswer}
-use Rattle.receiver.specs.declared.ApplyAnswer.TheVariants as applying
+use Rattle.receiver.specs.declared.Applied.{Applied}
 use Rattle.demands.specs.Demand3.{
   SenderCall,
   call_put,
@@ -79,19 +79,19 @@ pub data Way : Type 0 where
   spoil : (other area list : List ℕ) → Way
 
 -- what was opened is answered when it is applied
-applied : (opened : OpenAnswer) (area : List ℕ) (receiver : Receiver) (hold list : List ℕ)
-    → (answer : ApplyAnswer) × ((lent : List ℕ × List ℕ) × AppliedAs opened area receiver hold list answer lent.0 lent.1)
-applied (opening.Opened header repaired) area receiver hold list = (every_call_holds.apply header area receiver hold list).answered
-applied (opening.Refused number) area receiver hold list = (applying.Refused number, ((hold, list), (refl, refl, refl)))
+applied : (opened : Result Opened Refusal) (area : List ℕ) (receiver : Receiver) (hold list : List ℕ)
+    → (answer : Result Applied Refusal) × ((lent : List ℕ × List ℕ) × AppliedAs opened area receiver hold list answer lent.0 lent.1)
+applied (Ok opened) area receiver hold list = (every_call_holds.apply opened.header area receiver hold list).answered
+applied (Err refusal) area receiver hold list = (Err refusal, ((hold, list), (refl, refl, refl)))
 
 -- other bytes that are refused are the frame, damaged; where they are not refused, let the frame be lost
-abbrev pub spoiled : List ℕ → BothCalls → ApplyAnswer → Fate
-spoiled other both (applying.Applied missed packets listed receiver) = missing
-spoiled other both (applying.Refused number) = damaged other number both
+abbrev pub spoiled : List ℕ → BothCalls → Result Applied Refusal → Fate
+spoiled other both (Ok applied) = missing
+spoiled other both (Err refusal) = damaged other refusal both
 
-abbrev pub held_then : ApplyAnswer → List ℕ → List ℕ → List ℕ
-held_then (applying.Applied missed packets listed receiver) hold left = hold
-held_then (applying.Refused number) hold left = left
+abbrev pub held_then : Result Applied Refusal → List ℕ → List ℕ → List ℕ
+held_then (Ok applied) hold left = hold
+held_then (Err refusal) hold left = left
 
 module _ (taps : ℕ) where
   -- the two calls that a frame is given to, with what their contracts determine
@@ -123,11 +123,11 @@ module _ (taps : ℕ) where
       spoiled other both both.answer ∷ fates_of receiver (held_then both.answer hold both.hold') ways frames
 
   spoiled_meets : (other : List ℕ) (receiver : Receiver) (hold : List ℕ) (both : BothCalls) → Receives taps other receiver hold both
-      → (answer : ApplyAnswer) → both.answer ≡ answer → (frame : List ℕ) (fates : List Fate) (frames : List (List ℕ))
+      → (answer : Result Applied Refusal) → both.answer ≡ answer → (frame : List ℕ) (fates : List Fate) (frames : List (List ℕ))
       → ReceiverCalls taps receiver (held_then answer hold both.hold') fates frames
       → ReceiverCalls taps receiver hold (spoiled other both answer ∷ fates) (frame ∷ frames)
-  spoiled_meets other receiver hold both met (applying.Applied missed packets listed next) e frame fates frames h = h
-  spoiled_meets other receiver hold both met (applying.Refused number) e frame fates frames h = (met, e, h)
+  spoiled_meets other receiver hold both met (Ok done) e frame fates frames h = h
+  spoiled_meets other receiver hold both met (Err refusal) e frame fates frames h = (met, e, h)
 
   pub any_fates : (ways : List Way) (receiver : Receiver) (hold : List ℕ) (frames : List (List ℕ)) → AllLong frames
       → ReceiverCalls taps receiver hold (fates_of receiver hold ways frames) frames
@@ -165,9 +165,9 @@ module _ (taps : ℕ) where
   way_marks (spoil other area list ∷ ways) zero = lost
   way_marks (way ∷ ways) (suc i) = way_marks ways i
 
-  spoiled_lost : (other : List ℕ) (both : BothCalls) (answer : ApplyAnswer) → mark_of (spoiled other both answer) ≡ lost
-  spoiled_lost other both (applying.Applied missed packets listed next) = refl
-  spoiled_lost other both (applying.Refused number) = refl
+  spoiled_lost : (other : List ℕ) (both : BothCalls) (answer : Result Applied Refusal) → mark_of (spoiled other both answer) ≡ lost
+  spoiled_lost other both (Ok done) = refl
+  spoiled_lost other both (Err refusal) = refl
 
   pub marked_so : (ways : List Way) (receiver : Receiver) (hold : List ℕ) (frames : List (List ℕ)) → length ways ≤ length frames
       → (i : ℕ) → marks (fates_of receiver hold ways frames) i ≡ way_marks ways i
@@ -197,7 +197,7 @@ few_limit fates few a b less x y between = omega (arith, accepted_inside fates b
 
 -- ---- a history of each
 
-module _ (taps : ℕ) (allowed : taps_allowed taps ≡ true) (queue : List ℕ) (queue_bytes : Bytes queue) (hold : List ℕ) (hold_size_lem : length hold ≡ hold_size)
+module _ (taps : ℕ) (allowed : taps_allowed taps ≡ true) (queue : List ℕ) (queue_bytes : Bytes queue) (hold : List ℕ) (hold_sized : length hold ≡ hold_size)
     (ways : List Way) (few : length ways ≤ 65537) where
   -- of calls that met their contracts, with any ways
   pub history_of : (calls : List SenderCall) → SenderCalls taps fresh_sender queue calls
@@ -205,7 +205,7 @@ module _ (taps : ℕ) (allowed : taps_allowed taps ≡ true) (queue : List ℕ) 
   history_of calls met = record {
     allowed = allowed;
     queue_bytes = queue_bytes;
-    hold_size_lem = hold_size_lem;
+    hold_sized = hold_sized;
     sent = met;
     came = any_fates taps ways fresh_receiver hold (frames_sent calls)
         (all_long taps 0 (frames_sent calls) _ (fresh_sound taps fresh_sender queue calls (fresh_stands queue queue_bytes) met).carried);

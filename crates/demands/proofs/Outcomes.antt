@@ -2,12 +2,17 @@
 use mathlib.Core.Path.{◌≡◌, refl, sym, ap, subst, ◌∙◌}
 use mathlib.Core.Bool.{Bool, true, false, cond, ◌||◌}
 use mathlib.Core.List.{List, [], ◌∷◌, ◌++◌}
-use Prim.Native.Nat.{ℕ}
+use Prim.Native.Nat.{ℕ, ◌<◌}
+use native.Mathlib.Omega.{arith}
 use lib.Dec.{eqb}
-use borrow.Author.Tests.{eq-eqb}
+use borrow.Author.Tests.{eq-eqb, ne_eqb}
+use Rattle.std.specs.Prelude.{Result, Ok, Err}
+use Rattle.refusals.specs.Numbers.{number_of, refusal_of, answer_by, number_in}
 use Rattle.refusals.specs.Table.{Row, first_of, by}
-use Rattle.refusals.proofs.Table.{accepted, refused, kept, numbered, numbers_of, rising_from, lowest_first}
-use Rattle.demands.specs.Demand1.{Demand1}
+use Rattle.refusals.specs.declared.Refusal.{Refusal}
+use Rattle.refusals.proofs.Numbers.{known, numbered, refusal_back, number_positive}
+use Rattle.refusals.proofs.Table.{numbers_of, rising_from, lowest_first}
+use Rattle.demands.specs.Demand1.{Demand1, RefusesWith, RefusesByTable, RefusesNothing}
 
 -- whether a number is one of some
 abbrev pub among : ℕ → List ℕ → Bool
@@ -37,51 +42,78 @@ unfolding first_of
 left_out [] b row e = rw e
 left_out (first ∷ a) b row e = ap (λ (n : ℕ). cond first.applies first.number n) (left_out a b row e)
 
--- a buffer that is not written
-pub unwritten : {B : Type 0} (number : ℕ) (new old : B) → (number ≡ 0 → ⊥) → by number new old ≡ old
-unwritten number new old differs = sym (kept number number new old refl differs)
+-- ---- what refuses with a number
+
+module _ {F : Type 0} {refused : Refusal → F} {answer : F} {n : ℕ} where
+  -- is the answer of that number's refusal, ..
+  pub refused_as : RefusesWith refused answer n → answer ≡ refused (refusal_of n)
+  refused_as h = h.1.0 ∙ ap refused (sym (refusal_back h.0) ∙ ap refusal_of h.1.1)
+
+  -- .. and the number is not 0
+  pub refused_above : RefusesWith refused answer n → n ≡ 0 → ⊥
+  refused_above h z = omega (arith, number_positive h.0, h.1.1)
 
 -- A call whose contract determines the answer by its table's number, and what is lent: `value`, which is what it was before if the number is not 0.
-module _ {A B : Type 0} (Meets : A → B → Type 0) (number_of : A → ℕ) (Refused : ℕ → A) (number_of_lem : (n : ℕ) → number_of (Refused n) ≡ n)
-    (done : A) (no_number : number_of done ≡ 0) (differs : (n : ℕ) → Refused n ≡ done → ⊥)
-    (table : List Row) (rising : rising_from 0 (numbers_of table) ≡ true)
-    (before value : B) (same : (first_of table ≡ 0 → ⊥) → value ≡ before)
-    (is : Meets (by (first_of table) done (Refused (first_of table))) value)
-    (tells : (answer : A) (after : B) → Meets answer after → (answer ≡ by (first_of table) done (Refused (first_of table))) × (after ≡ value)) where
-  numbers_so : (answer : A) (after : B) → Meets answer after → number_of answer ≡ first_of table
-  numbers_so answer after o = ap number_of (tells answer after o).0 ∙ numbered number_of done Refused no_number number_of_lem (first_of table)
+module _ {A B : Type 0} (Meets : Result A Refusal → B → Type 0) (done : A)
+    (table : List Row) (rising : rising_from 0 (numbers_of table) ≡ true) (listed : known (numbers_of table) ≡ true)
+    (before value : B) (same : (first_of table ≡ 0 → ⊥) → value ≡ before) (is : Meets (answer_by (first_of table) done) value)
+    (tells : (answer : Result A Refusal) (after : B) → Meets answer after → (answer ≡ answer_by (first_of table) done) × (after ≡ value)) where
+  number_so : (answer : Result A Refusal) (after : B) → Meets answer after → number_in answer ≡ first_of table
+  number_so answer after o = ap number_in (tells answer after o).0 ∙ numbered table done listed
 
-  refused_so : (answer : A) (after : B) → Meets answer after → (number_of answer ≡ 0 → ⊥) → answer ≡ Refused (number_of answer)
-  refused_so answer after o ne =
-      let e = numbers_so answer after o in
-      (tells answer after o).0 ∙ sym (refused (first_of table) (first_of table) done Refused refl (λ z. ne (e ∙ z))) ∙ ap Refused (sym e)
+  refused_so : (answer : Result A Refusal) → (number_in answer ≡ 0 → ⊥) → RefusesWith Err answer (number_in answer)
+  refused_so (Ok given) ne = absurd (ne refl)
+  refused_so (Err refusal) ne = (refusal, (refl, refl))
 
-  -- an answer that is a refusal has a number
-  never_zero : (answer : A) (n : ℕ) (after : B) → Meets answer after → answer ≡ Refused n → first_of table ≡ 0 → ⊥
-  never_zero answer n after o e z =
-      differs n (sym e ∙ (tells answer after o).0 ∙ sym (accepted (first_of table) (first_of table) done (Refused (first_of table)) done refl z refl))
-
-  pub call_holds : Demand1 Meets before number_of (λ answer n. answer ≡ Refused n) table
+  pub call_holds : RefusesByTable Meets before table
   call_holds = record {
-    answered = (by (first_of table) done (Refused (first_of table)), (value, is));
+    answered = (answer_by (first_of table) done, (value, is));
     one_outcome = λ r₁ r₂ a₁ a₂ x y. ((tells r₁ a₁ x).0 ∙ sym (tells r₂ a₂ y).0, (tells r₁ a₁ x).1 ∙ sym (tells r₂ a₂ y).1);
-    number = numbers_so;
+    number = number_so;
     lowest = lowest_first table rising;
-    refused = refused_so;
+    refused = λ r after o ne. refused_so r ne;
     refusal = λ r n after o e.
-        let ne = never_zero r n after o e in
-        let number_is : n ≡ first_of table = sym (number_of_lem n) ∙ ap number_of (sym e) ∙ numbers_so r after o in
-        (λ z. ne (sym number_is ∙ z), (tells r after o).1 ∙ same ne);
+        let number_is : n ≡ first_of table = sym e.1.1 ∙ ap number_in (sym e.1.0) ∙ number_so r after o in
+        (refused_above e, (tells r after o).1 ∙ same (λ z. refused_above e (number_is ∙ z)));
   }
 
+-- .. with a buffer, which goes by the number too, with two, or with none
+module _ {A : Type 0} (done : A) (table : List Row) (rising : rising_from 0 (numbers_of table) ≡ true) (listed : known (numbers_of table) ≡ true) where
+  abbrev answer_so : Result A Refusal
+  answer_so = answer_by (first_of table) done
+
+  abbrev left : List ℕ → List ℕ → List ℕ
+  left new old = by (first_of table) new old
+
+  unwritten : (new old : List ℕ) → (first_of table ≡ 0 → ⊥) → left new old ≡ old
+  unfolding by
+  unwritten new old ne = rw (ne_eqb (first_of table) 0 ne)
+
+  pub one_lent : (Meets : Result A Refusal → List ℕ → Type 0) (new old : List ℕ) → Meets answer_so (left new old)
+      → ((answer : Result A Refusal) (after : List ℕ) → Meets answer after → (answer ≡ answer_so) × (after ≡ left new old))
+      → RefusesByTable Meets old table
+  one_lent Meets new old is tells = call_holds Meets done table rising listed old (left new old) (unwritten new old) is tells
+
+  pub two_lent : (Meets : Result A Refusal → List ℕ → List ℕ → Type 0) (new₁ old₁ new₂ old₂ : List ℕ)
+      → Meets answer_so (left new₁ old₁) (left new₂ old₂)
+      → ((answer : Result A Refusal) (after₁ after₂ : List ℕ) → Meets answer after₁ after₂
+      → (answer ≡ answer_so) × ((after₁ ≡ left new₁ old₁) × (after₂ ≡ left new₂ old₂)))
+      → RefusesByTable {Lent = List ℕ × List ℕ} (λ answer after. Meets answer after.0 after.1) (old₁, old₂) table
+  two_lent Meets new₁ old₁ new₂ old₂ is tells =
+      call_holds (λ answer after. Meets answer after.0 after.1) done table rising listed (old₁, old₂) (left new₁ old₁, left new₂ old₂)
+      (λ ne j. (unwritten new₁ old₁ ne j, unwritten new₂ old₂ ne j)) is
+      (λ r after o. let t = tells r after.0 after.1 o in (t.0, λ j. (t.1.0 j, t.1.1 j)))
+
+  pub none_lent : RefusesByTable {Lent = Unit {0}} (λ answer after. answer ≡ answer_so) tt table
+  none_lent = call_holds (λ answer after. answer ≡ answer_so) done table rising listed tt tt (λ ne. refl) refl (λ r after o. (o, refl))
+
 -- A call that refuses nothing: its contract determines the answer.
-module _ {A B : Type 0} (Meets : A → B → Type 0) (done : A) (value : B) (is : Meets done value)
-    (tells : (answer : A) (after : B) → Meets answer after → (answer ≡ done) × (after ≡ value)) where
-  pub never_refuses : Demand1 Meets value (λ answer. 0) (λ answer n. ⊥) []
+module _ {A : Type 0} (Meets : A → Type 0) (done : A) (is : Meets done) (tells : (answer : A) → Meets answer → answer ≡ done) where
+  pub never_refuses : RefusesNothing Meets
   unfolding first_of
   never_refuses = record {
-    answered = (done, (value, is));
-    one_outcome = λ r₁ r₂ a₁ a₂ x y. ((tells r₁ a₁ x).0 ∙ sym (tells r₂ a₂ y).0, (tells r₁ a₁ x).1 ∙ sym (tells r₂ a₂ y).1);
+    answered = (done, (tt, is));
+    one_outcome = λ r₁ r₂ a₁ a₂ x y. (tells r₁ x ∙ sym (tells r₂ y), refl);
     number = λ r after o. refl;
     lowest = lowest_first [] refl;
     refused = λ r after o ne. ne refl;

@@ -8,14 +8,17 @@ use native.Mathlib.Nat.{add-zero, add-suc, suc-add}
 use native.Mathlib.Omega.{arith}
 use lib.ListN.{length, take}
 use Rattle.basics.specs.Counts.{next_txfn}
+use Rattle.std.specs.Prelude.{Some, Result, Ok, Err}
+use Rattle.refusals.specs.Numbers.{refusal_of}
 use Rattle.refusals.specs.Table.{first_of}
+use Rattle.refusals.specs.declared.Refusal.{Refusal}
+use Rattle.refusals.specs.declared.Refusal.TheVariants.{JoinedLength}
 use Rattle.lent.specs.Written.{written}
 use Rattle.lent.proofs.Written.{written_front}
 use Rattle.scrambler.specs.Scrambler.{taps_allowed}
 use Rattle.header.specs.Header.{all_ones}
 use Rattle.header.specs.declared.Header.{Header}
-use Rattle.opening.specs.declared.OpenAnswer.{OpenAnswer}
-use Rattle.opening.specs.declared.OpenAnswer.TheVariants as opening
+use Rattle.opening.specs.declared.Opened.{Opened}
 use Rattle.frame.specs.Frame.{frame_bytes}
 use Rattle.nearest.specs.Near.{differences}
 use Rattle.opening.specs.NearFrame.{NearFrame}
@@ -26,8 +29,7 @@ use Rattle.link.proofs.Machine.{deliver}
 use Rattle.link.specs.Ledger.{Mark}
 use Rattle.receiver.specs.Applying.{fresh_receiver, pieces_of, missed_count, held_part, joined, area_table, apply_refusal, ApplyOutcome, receiver_after}
 use Rattle.receiver.specs.declared.Receiver.{Receiver}
-use Rattle.receiver.specs.declared.ApplyAnswer.{ApplyAnswer}
-use Rattle.receiver.specs.declared.ApplyAnswer.TheVariants as answer
+use Rattle.receiver.specs.declared.Applied.{Applied}
 use Rattle.receiver.proofs.Machine.{standing, machine_takes, machine_refuses}
 use Rattle.receiver.proofs.Tables.{BuffersPassed, read_as, opened_by_area}
 use Rattle.receiver.proofs.Laws.{accepted_answer, accepted_hold, refused_answer, refused_hold, apply_pass, by_opened, apply_own}
@@ -59,17 +61,17 @@ pub fresh_holds : (hold : List ℕ) → length hold ≡ 9000 → Holds fresh_rec
 fresh_holds hold e = record { stands = refl; most = omega arith; long = e }
 
 -- whatever is refused, by the one call or the other, the hold stays
-hold_stays : (opened : OpenAnswer) (area : List ℕ) (receiver : Receiver) (hold list : List ℕ) (number : ℕ) (left after : List ℕ)
-    → AppliedAs opened area receiver hold list (answer.Refused number) left after → left ≡ hold
-hold_stays (opening.Opened header repaired) area receiver hold list number left after o =
+hold_stays : (opened : Result Opened Refusal) (area : List ℕ) (receiver : Receiver) (hold list : List ℕ) (refusal : Refusal) (left after : List ℕ)
+    → AppliedAs opened area receiver hold list (Err refusal) left after → left ≡ hold
+hold_stays (Ok opened) area receiver hold list refusal left after o =
     ap (λ (lent : List ℕ × List ℕ). lent.0)
-    ((every_call_holds.apply header area receiver hold list).refusal (answer.Refused number) number (left, after) o refl).1
-hold_stays (opening.Refused other) area receiver hold list number left after o = o.1
+    ((every_call_holds.apply opened.header area receiver hold list).refusal (Err refusal) _ (left, after) o (refusal, (refl, refl))).1
+hold_stays (Err other) area receiver hold list refusal left after o = o.1
 
 -- ---- a frame that carries pieces is received as `Machine` says
 
 -- what the caller learns, and what state and hold stand for after it, are what `Machine` says
-pub record Takes (receiver : Receiver) (r : ApplyAnswer) (hold' list' : List ℕ) (c : machine.Received) : Type 0 where
+pub record Takes (receiver : Receiver) (r : Result Applied Refusal) (hold' list' : List ℕ) (c : machine.Received) : Type 0 where
   pub learns : learned_from r list' ≡ c.answer
   pub holds : Holds (receiver_after receiver r) hold' c.state
 
@@ -84,7 +86,7 @@ module _ (taps : ℕ) (frame came : List ℕ) (near : NearFrame came frame) (rec
   area = s.opened.area
 
   -- it is opened to what was sent, ..
-  opens : (both.opened ≡ opening.Opened header (differences came (frame_bytes taps header area))) × (both.area' ≡ written both.area 0 area)
+  opens : (both.opened ≡ Ok (record { header = header; repaired = differences came (frame_bytes taps header area) })) × (both.area' ≡ written both.area 0 area)
   opens =
       open_of_near taps all_ones header area came both.area both.opened both.area' allowed s.carries.fits_header s.carries.long
       s.carries.bytes area-room (rw s.carries.coded at near) met.0
@@ -121,11 +123,11 @@ module _ (taps : ℕ) (frame came : List ℕ) (near : NearFrame came frame) (rec
       let z = apply_pass header area receiver hold both.list (record { buffers = buffers; fits = s.carries.fits_header; read = read }) in
       let said = accepted_answer applies z in
       let o = rw said at applies in
-      let leaves = apply_own header area receiver hold both.list _ _ _ _ both.hold' both.list' o in
+      let leaves = apply_own header area receiver hold both.list _ both.hold' both.list' o in
       let front : take (length held) both.hold' ≡ held = ap (take (length held)) (accepted_hold applies z) ∙ written_front hold held (length held) refl in
       rw (sym comes_so ∙ machine_takes header area receiver hold pieces (own_pieces taps s) e, said)
       (record {
-        learns = ap (read_out (missed_count header receiver)) (apply_read header area receiver hold both.list _ _ _ _ both.hold' both.list' o).0;
+        learns = ap (read_out (missed_count header receiver)) (apply_read header area receiver hold both.list _ both.hold' both.list' o).0;
         holds = record {
           stands = λ j. record { expected = some (next_txfn header.txfn.0); held = front j };
           most = leaves.most;
@@ -140,7 +142,7 @@ module _ (taps : ℕ) (frame came : List ℕ) (near : NearFrame came frame) (rec
       by_opened header area receiver hold both.list buffers ∙ opened_by_area header area part s.carries.fits_header ∙ area_number false e in
       let ne : n ≡ 0 → ⊥ = λ z. omega arith in
       let is = sym comes_so ∙ machine_refuses header area receiver hold pieces (own_pieces taps s) e in
-      let said : both.answer ≡ answer.Refused 15 = refused_answer applies ne ∙ ap (λ (k : ℕ). answer.Refused k) fifteen in
+      let said : both.answer ≡ Err JoinedLength = refused_answer applies ne ∙ ap (λ (k : ℕ). Err (refusal_of k)) fifteen in
       rw (is, said, refused_hold applies ne) (record { learns = refl; holds = record { stands = refl; most = h.most; long = h.long } })
 
   pub receives : Takes receiver both.answer both.hold' both.list' as_model
@@ -176,12 +178,12 @@ module _ (taps : ℕ) (allowed : taps_allowed taps ≡ true) (mark : ℕ → Mar
   hears (fate ∷ fates) i receiver hold model (frame ∷ frames) [] e h c d = absurd c
   hears (missing ∷ fates) i receiver hold model (frame ∷ frames) (pieces ∷ more) e h c d =
       rw (now i (marks (missing ∷ fates)) e) (hears fates (suc i) receiver hold model frames more (then i (marks (missing ∷ fates)) e) h c.1 d)
-  hears (damaged other number both ∷ fates) i receiver hold model (frame ∷ frames) (pieces ∷ more) e h c d =
-      let m = marks (damaged other number both ∷ fates) in
-      let refused = subst (λ (r : ApplyAnswer). AppliedAs both.opened (take 1908 both.area') receiver hold both.list r both.hold' both.list')
+  hears (damaged other refusal both ∷ fates) i receiver hold model (frame ∷ frames) (pieces ∷ more) e h c d =
+      let m = marks (damaged other refusal both ∷ fates) in
+      let refused = subst (λ (r : Result Applied Refusal). AppliedAs both.opened (take 1908 both.area') receiver hold both.list r both.hold' both.list')
       d.1 d.0.1 in
       let same : both.hold' ≡ hold =
-      hold_stays both.opened (take 1908 both.area') receiver hold both.list number both.hold' both.list' refused in
+      hold_stays both.opened (take 1908 both.area') receiver hold both.list refusal both.hold' both.list' refused in
       rw (now i m e) (hears fates (suc i) receiver both.hold' model frames more (then i m e) (rw same h) c.1 d.2)
   hears (arrives came both ∷ fates) i receiver hold model (frame ∷ frames) (pieces ∷ more) e h c d =
       let m = marks (arrives came both ∷ fates) in

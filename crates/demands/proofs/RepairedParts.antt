@@ -9,6 +9,8 @@ use lib.Dec.{eqb}
 use lib.ListN.{length, get_or, take, drop, length-append, length-drop}
 use lib.Seq.{take_at, drop_at, drop-cons, length-take-le}
 use Rattle.basics.specs.Lists.{Bytes}
+use Rattle.std.specs.Prelude.{Result, Ok}
+use Rattle.refusals.specs.declared.Refusal.{Refusal}
 use Rattle.lent.specs.Written.{written}
 use Rattle.lent.proofs.Written.{bytes_written}
 use Rattle.scrambler.specs.Scrambler.{taps_allowed, scrambled}
@@ -21,14 +23,11 @@ use Rattle.nearest.specs.Near.{differences}
 use Rattle.nearest.proofs.Nearness.{differences_self, self_near}
 use Rattle.repairing.specs.NearPart.{Coded, NearPart}
 use Rattle.repairing.specs.Repairing.{repair_refusal, RepairOutcome, shown_bytes}
-use Rattle.repairing.specs.declared.RepairAnswer.{RepairAnswer}
-use Rattle.repairing.specs.declared.RepairAnswer.TheVariants.{Repaired}
 use Rattle.repairing.proofs.Differences.{differ_same}
 use Rattle.repairing.proofs.Coded.{near_itself}
 use Rattle.opening.specs.Opening.{unscrambled, opened_reserved, OpenOutcome}
 use Rattle.opening.specs.NearFrame.{NearFrame}
-use Rattle.opening.specs.declared.OpenAnswer.{OpenAnswer}
-use Rattle.opening.specs.declared.OpenAnswer.TheVariants.{Opened}
+use Rattle.opening.specs.declared.Opened.{Opened}
 use Rattle.opening.proofs.Built.{built_coded}
 use Rattle.demands.specs.Demand2.{RepairableTo}
 use Rattle.demands.proofs.Demand2.{demand2_holds}
@@ -69,11 +68,11 @@ module _ (taps : ℕ) (reserved : ReservedBits) (header : Header) (area : List �
   pub sent_unrefused : (scratch : List ℕ) → 2072 ≤ length scratch → repair_refusal taps sent scratch ≡ 0
   sent_unrefused scratch room = (demand2_holds.repairs_exactly taps sent scratch).1 (allowed, room, (sent, sent_itself))
 
-  pub as_sent_lem : (before : List ℕ) (answer : RepairAnswer) (after : List ℕ) → 2072 ≤ length before → RepairOutcome taps sent before answer after
-      → (answer ≡ Repaired 0) × (shown_bytes answer sent after ≡ sent)
+  pub as_sent_lem : (before : List ℕ) (answer : Result ℕ Refusal) (after : List ℕ) → 2072 ≤ length before → RepairOutcome taps sent before answer after
+      → (answer ≡ Ok 0) × (shown_bytes answer sent after ≡ sent)
   as_sent_lem before answer after room o =
       let back = demand2_holds.repair_back taps sent sent before answer after allowed room sent_itself o in
-      (back.0 ∙ ap (λ (n : ℕ). Repaired n) (differences_self sent), back.1)
+      (back.0 ∙ ap (λ (n : ℕ). Ok n) (differences_self sent), back.1)
 
   -- its first byte is another
   module _ (wrong : ℕ) where
@@ -89,7 +88,7 @@ module _ (taps : ℕ) (reserved : ReservedBits) (header : Header) (area : List �
     part_size : length part ≡ 2072
     part_size = sym (ap length first_off) ∙ sent_size
 
-    pub wrong_shown : (before : List ℕ) (answer : RepairAnswer) (after : List ℕ) → 2072 ≤ length before → RepairOutcome taps part before answer after
+    pub wrong_shown : (before : List ℕ) (answer : Result ℕ Refusal) (after : List ℕ) → 2072 ≤ length before → RepairOutcome taps part before answer after
         → shown_bytes answer part after ≡ sent
     wrong_shown before answer after room o =
         let to : RepairableTo taps part sent = record { part_size = part_size; coded = sent_coded; near = part_near } in
@@ -108,21 +107,22 @@ module _ (taps : ℕ) (reserved : ReservedBits) (header : Header) (area : List �
       behind_near = subst (λ (l : List ℕ). NearPart l sent) (sym (drop_at (take 9 frame) part 9 front)) part_near;
     }
 
-    pub wrong_opened : (before : List ℕ) (answer : OpenAnswer) (after : List ℕ) → header_fits header ≡ true → 1908 ≤ length before
-        → OpenOutcome taps came before answer after → (answer ≡ Opened header (differences came frame)) × (after ≡ written before 0 area)
+    pub wrong_opened : (before : List ℕ) (answer : Result Opened Refusal) (after : List ℕ) → header_fits header ≡ true → 1908 ≤ length before
+        → OpenOutcome taps came before answer after
+        → (answer ≡ Ok (record { header = header; repaired = differences came frame })) × (after ≡ written before 0 area)
     wrong_opened before answer after fits room o =
         demand2_holds.frame_back taps reserved header area came before answer after allowed fits long bytes room came_near o
 
 -- what is opened with a count of 0 is the very frame that would be built of the answer; and of bytes `open` leaves bytes
 module _ (taps : ℕ) (frame before : List ℕ) (header : Header) (after : List ℕ) where
-  pub none_wrong : OpenOutcome taps frame before (Opened header 0) after
+  pub none_wrong : OpenOutcome taps frame before (Ok (record { header = header; repaired = 0 })) after
       → (area : List ℕ) × (frame ≡ frame_bytes_with taps (opened_reserved taps frame) header area)
   none_wrong o =
-      let again = demand2_holds.frame_again taps frame before header 0 after o in
+      let again = demand2_holds.frame_again taps frame before (record { header = header; repaired = 0 }) after o in
       let size = frame_length (opened_reserved taps frame) header taps again.0 again.1.2 in
       (again.0, differ_same frame _ (again.1.0.long ∙ sym size) (sym again.1.5))
 
-  pub bytes_left : (repaired : ℕ) → Bytes before → OpenOutcome taps frame before (Opened header repaired) after → Bytes after
+  pub bytes_left : (repaired : ℕ) → Bytes before → OpenOutcome taps frame before (Ok (record { header = header; repaired = repaired })) after → Bytes after
   bytes_left repaired bytes o =
-      let again = demand2_holds.frame_again taps frame before header repaired after o in
+      let again = demand2_holds.frame_again taps frame before (record { header = header; repaired = repaired }) after o in
       subst Bytes (sym again.1.4) (bytes_written before 0 again.0 bytes again.1.3)

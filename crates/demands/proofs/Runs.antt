@@ -13,7 +13,8 @@ use Rattle.basics.specs.Lists.{Bytes, is_some}
 use Rattle.basics.specs.Sizes.{queue_size, frame_size}
 use Rattle.refusals.specs.Table.{first_of}
 use Rattle.lent.specs.Written.{written}
-use Rattle.refusals.proofs.Table.{accepted}
+use Rattle.std.specs.Prelude.{Ok}
+use Rattle.refusals.proofs.Numbers.{answered, stands}
 use Rattle.scrambler.specs.Scrambler.{taps_allowed}
 use Rattle.header.specs.Header.{fields_fit}
 use Rattle.header.specs.declared.Fields.{Fields}
@@ -30,8 +31,6 @@ use Rattle.marks.proofs.Parsed.{queue_is}
 use Rattle.sender.specs.Put.{fresh_sender, put_refusal, put_sender, put_bytes, PutOutcome}
 use Rattle.sending.specs.Next.{kind_for, area_for, header_for, left_in, sender_after, next_refusal, NextOutcome}
 use Rattle.sender.specs.declared.Sender.{Sender}
-use Rattle.sender.specs.declared.PutAnswer.TheVariants as putting
-use Rattle.sending.specs.declared.NextAnswer.TheVariants as sending
 use Rattle.sender.proofs.Stands.{Stands, fresh_stands}
 use Rattle.sender.proofs.Putting.{put_stands}
 use Rattle.sending.proofs.Left.{left_no_longer}
@@ -68,11 +67,11 @@ module _ (taps : ℕ) (allowed : taps_allowed taps ≡ true) where
   abbrev pub run : Sender → List ℕ → List Input → List SenderCall
   run sender queue [] = []
   run sender queue (give_packet packet bytes ∷ inputs) =
-      call_put packet (putting.Taken (put_sender sender packet)) (put_bytes queue sender.start sender.used packet)
+      call_put packet (Ok (put_sender sender packet)) (put_bytes queue sender.start sender.used packet)
       ∷ run (put_sender sender packet) (put_bytes queue sender.start sender.used packet) inputs
   run sender queue (ask_frame fields out ∷ inputs) =
       let waiting = waiting_in queue sender.start sender.used in
-      call_next fields out (sending.Sent (sender_after sender waiting) (kind_for waiting))
+      call_next fields out (Ok (record { sender = sender_after sender waiting; kind = kind_for waiting }))
       (ring_written queue (sender_after sender waiting).start 0 (layout (left_in waiting)))
       (written out 0 (frame_bytes taps (header_for sender fields waiting) (area_for waiting)))
       ∷ run (sender_after sender waiting) (ring_written queue (sender_after sender waiting).start 0 (layout (left_in waiting))) inputs
@@ -92,10 +91,10 @@ module _ (taps : ℕ) (allowed : taps_allowed taps ≡ true) where
         le-ltb 32768 (sender.used + 2 + length packet) (omega (arith, r.used_is)),
       )
 
-      put_yes : PutOutcome queue sender packet (putting.Taken (put_sender sender packet)) (put_bytes queue sender.start sender.used packet)
+      put_yes : PutOutcome queue sender packet (Ok (put_sender sender packet)) (put_bytes queue sender.start sender.used packet)
       put_yes =
           let n = put_refusal queue sender.start sender.used packet in
-          record { answer = accepted n n _ _ _ refl no_put_refusal refl; bytes = accepted n n _ _ _ refl no_put_refusal refl }
+          record { answer = answered n _ _ no_put_refusal refl; bytes = stands n _ _ _ no_put_refusal refl }
 
       put_ready : Ready (put_sender sender packet) (put_bytes queue sender.start sender.used packet) i (with_packet q packet)
       put_ready =
@@ -124,13 +123,13 @@ module _ (taps : ℕ) (allowed : taps_allowed taps ≡ true) where
       unfolding next_refusal first_of
       no_next_refusal = rw (allowed, eq-eqb (length queue) 32768 r.size, le-leb 2081 (length out) room, whole, fit)
 
-      next_yes : NextOutcome taps fields sender queue out (sending.Sent (sender_after sender waiting) (kind_for waiting)) queue' out'
+      next_yes : NextOutcome taps fields sender queue out (Ok (record { sender = sender_after sender waiting; kind = kind_for waiting })) queue' out'
       next_yes =
           let n = next_refusal taps fields sender.start sender.used queue out in
           record {
-            answer = accepted n n _ _ _ refl no_next_refusal refl;
-            bytes = accepted n n _ _ _ refl no_next_refusal refl;
-            frame = accepted n n _ _ _ refl no_next_refusal refl;
+            answer = answered n _ _ no_next_refusal refl;
+            bytes = stands n _ _ _ no_next_refusal refl;
+            frame = stands n _ _ _ no_next_refusal refl;
           }
 
       next_ready : Ready (sender_after sender waiting) queue' (suc i) (left_in q)

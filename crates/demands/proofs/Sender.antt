@@ -5,6 +5,8 @@ use mathlib.Core.Option.{some}
 use mathlib.Core.List.{List, [], ◌∷◌, map}
 use Prim.Native.Nat.{ℕ, suc, ◌%◌}
 use lib.ListN.{length}
+use Rattle.std.specs.Prelude.{Ok, Err}
+use Rattle.refusals.specs.declared.Refusal.{Refusal}
 use Rattle.header.specs.Header.{all_ones}
 use Rattle.header.specs.declared.Fields.{Fields}
 use Rattle.header.specs.declared.FrameKind.{FrameKind}
@@ -28,8 +30,6 @@ use Rattle.packing.proofs.Bench.{bench}
 use Rattle.sender.specs.Put.{PutOutcome}
 use Rattle.sending.specs.Next.{NextOutcome}
 use Rattle.sender.specs.declared.Sender.{Sender}
-use Rattle.sender.specs.declared.PutAnswer.TheVariants as put
-use Rattle.sending.specs.declared.NextAnswer.TheVariants as next
 use Rattle.sender.proofs.Stands.{Stands}
 use Rattle.sender.proofs.Putting.{put_stands}
 use Rattle.sending.proofs.Carried.{Carries, next_stands}
@@ -40,15 +40,15 @@ use Rattle.demands.proofs.Demand1.{every_call_holds}
 -- the calls that were not refused
 abbrev pub granted : List SenderCall → List Call
 granted [] = []
-granted (call_put packet (put.Taken after) queue ∷ calls) = machine.put packet ∷ granted calls
-granted (call_put packet (put.Refused number) queue ∷ calls) = granted calls
-granted (call_next fields out (next.Sent sender kind) queue after ∷ calls) = machine.next ∷ granted calls
-granted (call_next fields out (next.Refused number) queue after ∷ calls) = granted calls
+granted (call_put packet (Ok after) queue ∷ calls) = machine.put packet ∷ granted calls
+granted (call_put packet (Err refusal) queue ∷ calls) = granted calls
+granted (call_next fields out (Ok sent) queue after ∷ calls) = machine.next ∷ granted calls
+granted (call_next fields out (Err refusal) queue after ∷ calls) = granted calls
 
 -- a refusal leaves the queue
-put_kept : (queue : List ℕ) (sender : Sender) (packet : List ℕ) (number : ℕ) (after : List ℕ)
-    → PutOutcome queue sender packet (put.Refused number) after → after ≡ queue
-put_kept queue sender packet number after o = ((every_call_holds.put queue sender packet).refusal (put.Refused number) number after o refl).1
+put_kept : (queue : List ℕ) (sender : Sender) (packet : List ℕ) (refusal : Refusal) (after : List ℕ)
+    → PutOutcome queue sender packet (Err refusal) after → after ≡ queue
+put_kept queue sender packet refusal after o = ((every_call_holds.put queue sender packet).refusal (Err refusal) _ after o (refusal, (refl, refl))).1
 
 -- frames of 2,081 bytes
 abbrev pub AllLong : List (List ℕ) → Type 0
@@ -125,11 +125,11 @@ module _ (taps : ℕ) where
 
   -- ---- the calls, from a state that stands for a queue after i frames
 
-  next_kept : (fields : Fields) (sender : Sender) (queue out : List ℕ) (number : ℕ) (left after : List ℕ)
-      → NextOutcome taps fields sender queue out (next.Refused number) left after → left ≡ queue
-  next_kept fields sender queue out number left after o =
+  next_kept : (fields : Fields) (sender : Sender) (queue out : List ℕ) (refusal : Refusal) (left after : List ℕ)
+      → NextOutcome taps fields sender queue out (Err refusal) left after → left ≡ queue
+  next_kept fields sender queue out refusal left after o =
       ap (λ (lent : List ℕ × List ℕ). lent.0)
-      ((every_call_holds.next_frame taps fields sender queue out).refusal (next.Refused number) number (left, after) o refl).1
+      ((every_call_holds.next_frame taps fields sender queue out).refusal (Err refusal) _ (left, after) o (refusal, (refl, refl))).1
 
   bench_pieces : (q : Queue) → IsQueue q → pieces_in bench (frame_for bench q) ≡ some (cut (load q) q).pieces
   unfolding bench
@@ -145,26 +145,26 @@ module _ (taps : ℕ) where
       → SenderCalls taps sender queue calls → Sound i q sender queue calls
   sound [] i q sender queue s k h =
       record { carried = tt; packets = tt; taken = refl; left = queue_is (used_in queue sender.start sender.used) q s.parsed }
-  sound (call_put packet (put.Taken after) left ∷ calls) i q sender queue s k h =
+  sound (call_put packet (Ok after) left ∷ calls) i q sender queue s k h =
       let l = put_stands queue sender packet after left i q h.1 h.0 s in
       let r = sound calls i (with_packet q packet) after left l.1 (put_queue q packet k l.0) h.2 in
       record { carried = r.carried; packets = (l.0, r.packets); taken = ap (λ (ps : List Packet). packet ∷ ps) r.taken; left = r.left }
-  sound (call_put packet (put.Refused number) left ∷ calls) i q sender queue s k h =
-      let same : left ≡ queue = put_kept queue sender packet number left h.1 in
+  sound (call_put packet (Err refusal) left ∷ calls) i q sender queue s k h =
+      let same : left ≡ queue = put_kept queue sender packet refusal left h.1 in
       let r = sound calls i q sender left (rw same s) k h.2 in
       record { carried = r.carried; packets = r.packets; taken = r.taken; left = r.left }
-  sound (call_next fields out (next.Sent state kind) left after ∷ calls) i q sender queue s k h =
-      let l = next_stands taps fields sender queue out state kind left after i q h.0 s in
-      let stands = subst (λ (c : Cut). Stands left state (suc i) c.left) (fill_cut q k) l.1 in
-      let r = sound calls (suc i) (cut (load q) q).left state left stands (cut_queue (load q) q k) h.1 in
+  sound (call_next fields out (Ok sent) left after ∷ calls) i q sender queue s k h =
+      let l = next_stands taps fields sender queue out sent left after i q h.0 s in
+      let stands = subst (λ (c : Cut). Stands left sent.sender (suc i) c.left) (fill_cut q k) l.1 in
+      let r = sound calls (suc i) (cut (load q) q).left sent.sender left stands (cut_queue (load q) q k) h.1 in
       record {
         carried = (record { opened = frame_for bench q; carries = l.0; has = bench_pieces q k }, r.carried);
         packets = r.packets;
         taken = r.taken;
         left = r.left;
       }
-  sound (call_next fields out (next.Refused number) left after ∷ calls) i q sender queue s k h =
-      let same : left ≡ queue = next_kept fields sender queue out number left after h.0 in
+  sound (call_next fields out (Err refusal) left after ∷ calls) i q sender queue s k h =
+      let same : left ≡ queue = next_kept fields sender queue out refusal left after h.0 in
       let r = sound calls i q sender left (rw same s) k h.1 in
       record { carried = r.carried; packets = r.packets; taken = r.taken; left = r.left }
 
