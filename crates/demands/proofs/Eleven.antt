@@ -12,7 +12,6 @@ use Rattle.refusals.specs.Numbers.{number_of}
 use Rattle.refusals.specs.Table.{Row, ◌unless◌, first_of}
 use Rattle.refusals.specs.declared.Refusal.{Refusal}
 use Rattle.refusals.specs.declared.Refusal.TheVariants.{ReceivedField}
-use Rattle.refusals.proofs.Numbers.{number_positive}
 use Rattle.refusals.proofs.Table.{numbers_of}
 use Rattle.header.specs.Header.{fields_fit, header_fits}
 use Rattle.header.specs.Calls.{code_refusal}
@@ -32,7 +31,7 @@ use Rattle.flat.specs.declared.FlatApply.{FlatApply}
 use Rattle.flat.specs.declared.states.FlatReceiver.{FlatReceiver}
 use Rattle.flat.proofs.Back.{header_through_c}
 use Rattle.taqwelim.specs.Calls.{OpenCall, ApplyCall}
-use Rattle.demands.proofs.Outcomes.{among, first_among, left_out}
+use Rattle.demands.proofs.Outcomes.{among, first_among, left_out, number_above}
 use Rattle.demands.proofs.Demand2.{demand2_holds}
 
 module _ (header : Header) (area : List ℕ) (receiver : Receiver) (hold list : List ℕ) where
@@ -86,7 +85,7 @@ c_never_11 taps frame buffer after opened o none area receiver hold list applied
         → (next : Result Applied Refusal) → ApplyOutcome (header_of opened.header) area (receiver_of receiver) hold list next hold' list'
         → applied ≡ flat_apply receiver next → ⊥
     go (Err refusal) outcome e next applies f =
-        let z : number_of refusal ≡ 0 = sym (ap (λ (r : FlatOpen). r.refusal) e) ∙ none in omega (arith, number_positive refusal)
+        number_above refusal (sym (ap (λ (r : FlatOpen). r.refusal) e) ∙ none)
     go (Ok given) outcome e (Ok done) applies f =
         let z : ◌≡◌ {A = ℕ} 0 11 = sym (ap (λ (r : FlatApply). r.refusal) f) ∙ eleven in omega arith
     go (Ok given) outcome e (Err refusal) applies f =

@@ -2,7 +2,7 @@
 use mathlib.Core.Path.{◌≡◌, refl, sym, ap, subst, ◌∙◌}
 use mathlib.Core.Bool.{Bool, true, false, cond, ◌||◌}
 use mathlib.Core.List.{List, [], ◌∷◌, ◌++◌}
-use Prim.Native.Nat.{ℕ, ◌<◌}
+use Prim.Native.Nat.{ℕ}
 use native.Mathlib.Omega.{arith}
 use lib.Dec.{eqb}
 use borrow.Author.Tests.{eq-eqb, ne_eqb}
@@ -10,7 +10,8 @@ use Rattle.std.specs.Prelude.{Result, Ok, Err}
 use Rattle.refusals.specs.Numbers.{number_of, refusal_of, answer_by, number_in}
 use Rattle.refusals.specs.Table.{Row, first_of, by}
 use Rattle.refusals.specs.declared.Refusal.{Refusal}
-use Rattle.refusals.proofs.Numbers.{known, numbered, refusal_back, number_positive}
+use Rattle.refusals.specs.declared.Refusal.TheVariants.{ListPosition}
+use Rattle.refusals.proofs.Numbers.{known, numbered, refusal_back}
 use Rattle.refusals.proofs.Table.{numbers_of, rising_from, lowest_first}
 use Rattle.demands.specs.Demand1.{Demand1, RefusesWith, RefusesByTable, RefusesNothing}
 
@@ -44,6 +45,14 @@ left_out (first ∷ a) b row e = ap (λ (n : ℕ). cond first.applies first.numb
 
 -- ---- what refuses with a number
 
+-- no refusal has the number 0
+pub number_above : (refusal : Refusal) → number_of refusal ≡ 0 → ⊥
+unfolding refusal_of
+number_above refusal z =
+    let is : refusal ≡ ListPosition = sym (refusal_back refusal) ∙ ap refusal_of z in
+    let e : 16 ≡ 0 = sym (ap number_of is) ∙ z in
+    omega arith
+
 module _ {F : Type 0} {refused : Refusal → F} {answer : F} {n : ℕ} where
   -- is the answer of that number's refusal, ..
   pub refused_as : RefusesWith refused answer n → answer ≡ refused (refusal_of n)
@@ -51,7 +60,7 @@ module _ {F : Type 0} {refused : Refusal → F} {answer : F} {n : ℕ} where
 
   -- .. and the number is not 0
   pub refused_above : RefusesWith refused answer n → n ≡ 0 → ⊥
-  refused_above h z = omega (arith, number_positive h.0, h.1.1)
+  refused_above h z = number_above h.0 (h.1.1 ∙ z)
 
 -- A call whose contract determines the answer by its table's number, and what is lent: `value`, which is what it was before if the number is not 0.
 module _ {A B : Type 0} (Meets : Result A Refusal → B → Type 0) (done : A)

@@ -1,6 +1,5 @@
 -- How a call's two ways out meet a contract that goes by the number of its table, given what its judge answered; and the laws of the numbers.
-use Prim.Native.Nat.{ℕ, ◌<◌}
-use native.Mathlib.Omega.{arith}
+use Prim.Native.Nat.{ℕ}
 use mathlib.Core.Bool.{Bool, true, false, false≢true, cond, ◌&&◌}
 use mathlib.Core.List.{List, [], ◌∷◌}
 use mathlib.Core.Path.{◌≡◌, refl, sym, ap, ◌∙◌}
@@ -73,24 +72,6 @@ refusal_back AreaSum = refl
 refusal_back Packing = refl
 refusal_back JoinedLength = refl
 refusal_back ListPosition = refl
-
--- no refusal's number is 0
-pub number_positive : (refusal : Refusal) → 0 < number_of refusal
-number_positive Taps = omega arith
-number_positive Size = omega arith
-number_positive State = omega arith
-number_positive PacketLength = omega arith
-number_positive QueueRoom = omega arith
-number_positive SentField = omega arith
-number_positive Preamble = omega arith
-number_positive CodedHeader = omega arith
-number_positive HeaderSum = omega arith
-number_positive ReceivedField = omega arith
-number_positive PayloadWord = omega arith
-number_positive AreaSum = omega arith
-number_positive Packing = omega arith
-number_positive JoinedLength = omega arith
-number_positive ListPosition = omega arith
 
 -- the numbers of a table are all the paper's
 abbrev pub known : List ℕ → Bool
