@@ -50,7 +50,7 @@ pub number_above : (refusal : Refusal) → number_of refusal ≡ 0 → ⊥
 unfolding refusal_of
 number_above refusal z =
     let is : refusal ≡ ListPosition = sym (refusal_back refusal) ∙ ap refusal_of z in
-    let e : 16 ≡ 0 = sym (ap number_of is) ∙ z in
+    let e : ◌≡◌ {A = ℕ} 16 0 = sym (ap number_of is) ∙ z in
     omega arith
 
 module _ {F : Type 0} {refused : Refusal → F} {answer : F} {n : ℕ} where
