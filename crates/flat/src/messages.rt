@@ -15,10 +15,7 @@ pub struct FlatMessage {
 }
 
 // The greatest value of each of a message's numbers, by its bits; 0 where it has no such number.
-#[tactic(
-    auto,
-    unfolding(crate::specs::Messages::first_most, crate::specs::Messages::second_most, crate::specs::Messages::third_most)
-)]
+#[tactic(auto, unfolding(crate::specs::Messages::first_most, crate::specs::Messages::second_most, crate::specs::Messages::third_most))]
 fn most_numbers(opcode: u8) -> [u16; 3]
     ensures { result ≡ first_most opcode ∷ second_most opcode ∷ third_most opcode ∷ [] }
 {
@@ -100,10 +97,24 @@ impl From<FastChannel> for FlatMessage {
         match message {
             FastChannel::CrcErrors(errors) => numbers(0, errors, 0, 0),
             FastChannel::ReceivedPower { power, lock } => numbers(1, power, u16::from(lock), 0),
-            FastChannel::PowerStatistics { mean, deviation } => numbers(2, mean as u16, deviation as u16, 0),
+            FastChannel::PowerStatistics { mean, deviation } => numbers(
+                2,
+                u16::from(mean),
+                u16::from(deviation),
+                0,
+            ),
             FastChannel::SyncLosses { losses, lock } => numbers(3, losses, u16::from(lock), 0),
-            FastChannel::PowerRange { least, greatest } => numbers(4, least as u16, greatest as u16, 0),
-            FastChannel::Version { major, minor, patch } => numbers(5, major as u16, minor as u16, patch as u16),
+            FastChannel::PowerRange { least, greatest } => numbers(
+                4,
+                u16::from(least),
+                u16::from(greatest),
+                0,
+            ),
+            FastChannel::Version {
+                major,
+                minor,
+                patch,
+            } => numbers(5, u16::from(major), u16::from(minor), u16::from(patch)),
             FastChannel::CorrectedFrames(frames) => numbers(6, frames, 0, 0),
             FastChannel::Reserved(opcode) => numbers(opcode, 0, 0, 0),
             FastChannel::Absent => numbers(15, 0, 0, 0),

@@ -45,13 +45,7 @@ pub fn taqwelim_next_frame(
 ) -> FlatNext
     ensures { NextCall taps fields sender queue.old out.old result queue.new out.new }
 {
-    let answer = sending::next_frame(
-        taps,
-        Fields::from(fields),
-        Sender::from(sender),
-        queue,
-        out,
-    );
+    let answer = sending::next_frame(taps, Fields::from(fields), Sender::from(sender), queue, out);
     flat::flat_next(sender, answer)
 }
 
