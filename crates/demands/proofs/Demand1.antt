@@ -2,6 +2,7 @@
 use mathlib.Core.Path.{◌≡◌, refl}
 use mathlib.Core.List.{List}
 use Prim.Native.Nat.{ℕ, ◌+◌}
+use Rattle.refusals.specs.Numbers.{refusal_of}
 use Rattle.header.specs.Calls.{code_table, code_refusal, CodeHeaderOutcome}
 use Rattle.header_reading.specs.Reading.{read_table, read_refusal}
 use Rattle.fast_channel.specs.Level.{level_of, LevelOutcome}
@@ -16,7 +17,8 @@ use Rattle.demands.specs.Demand1.{EveryCall}
 use Rattle.demands.proofs.Outcomes.{one_lent, two_lent, none_lent, never_refuses}
 
 pub every_call_holds : EveryCall
-unfolding put_refusal waiting_refusal waiting_answer next_refusal open_refusal repair_refusal apply_refusal entry_refusal entry_answer code_refusal read_refusal
+unfolding put_refusal waiting_refusal waiting_answer next_refusal open_refusal repair_refusal apply_refusal entry_refusal entry_answer code_refusal
+    read_refusal refusal_of
 every_call_holds = record {
   put = λ queue sender packet.
       one_lent _ (put_table queue sender.start sender.used packet) refl refl (PutOutcome queue sender packet) _ queue
