@@ -33,7 +33,7 @@ use Rattle.marks.proofs.Parsed.{whole_parsed, queue_is}
 use Rattle.sender.specs.declared.Sender.{Sender}
 use Rattle.sender.proofs.Stands.{Stands}
 use Rattle.sending.specs.Next.{area_for, header_for, left_in, next_refusal, NextOutcome}
-use Rattle.sending.specs.declared.NextAnswer.TheVariants.{Sent}
+use Rattle.std.specs.Prelude.{Ok}
 use Rattle.sending.proofs.Left.{left_bytes}
 use Rattle.sending.proofs.AreaBytes.{area_bytes}
 use Rattle.sending.proofs.Ring.{not_refused, passed, state_is, ring_is, waits_bytes, laid, left_fits}
@@ -50,7 +50,7 @@ pub record Carries (taps : ℕ) (frame : List ℕ) (number : ℕ) (opened : Open
 
 module _ (taps : ℕ) (fields : Fields) (sender : Sender) (bytes out : List ℕ) (sender' : Sender) (kind : FrameKind) (bytes' out' : List ℕ) (i : ℕ) where
   -- the queue that the bytes stand for
-  module _ (outcome : NextOutcome taps fields sender bytes out (Sent sender' kind) bytes' out') (b : Bytes bytes) (count : sender.next.0 ≡ i % 65536) where
+  module _ (outcome : NextOutcome taps fields sender bytes out (Ok (record { sender = sender'; kind = kind })) bytes' out') (b : Bytes bytes) (count : sender.next.0 ≡ i % 65536) where
     abbrev waits : List ℕ
     waits = used_in bytes sender.start sender.used
 
@@ -100,7 +100,7 @@ module _ (taps : ℕ) (fields : Fields) (sender : Sender) (bytes out : List ℕ)
         })
 
   -- A frame that is built carries what `Packing` says of the queue, and what it carries leaves the queue.
-  pub next_stands : (queue : Queue) → NextOutcome taps fields sender bytes out (Sent sender' kind) bytes' out' → Stands bytes sender i queue
+  pub next_stands : (queue : Queue) → NextOutcome taps fields sender bytes out (Ok (record { sender = sender'; kind = kind })) bytes' out' → Stands bytes sender i queue
       → Carries taps (take 2081 out') (i % 65536) (frame_for bench queue) × Stands bytes' sender' (suc i) (left_in queue)
   next_stands queue outcome s =
       let is = queue_is (used_in bytes sender.start sender.used) queue s.parsed in

@@ -22,7 +22,7 @@ use Rattle.marks.proofs.Used.{used_length}
 use Rattle.sender.proofs.Freeing.{frees}
 use Rattle.sender.specs.declared.Sender.{Sender}
 use Rattle.sending.specs.Next.{kind_for, left_in, sender_after, next_refusal, NextOutcome}
-use Rattle.sending.specs.declared.NextAnswer.TheVariants.{Sent}
+use Rattle.std.specs.Prelude.{Ok}
 use Rattle.sending.proofs.Left.{begun_mark, mark_short, LeftOf, fill_left, left_no_longer}
 use Rattle.sending.proofs.Sending.{NextPassed, next_passed, sent_so}
 
@@ -32,7 +32,7 @@ no_bytes (x ∷ l) e = absurd (omega arith)
 
 -- a frame that is built
 module _ {taps : ℕ} {fields : Fields} {sender : Sender} {bytes out : List ℕ} {sender' : Sender} {kind : FrameKind} {bytes' out' : List ℕ}
-    (outcome : NextOutcome taps fields sender bytes out (Sent sender' kind) bytes' out') where
+    (outcome : NextOutcome taps fields sender bytes out (Ok (record { sender = sender'; kind = kind })) bytes' out') where
   abbrev start : ℕ
   start = sender.start
 
@@ -88,7 +88,7 @@ module _ {taps : ℕ} {fields : Fields} {sender : Sender} {bytes out : List ℕ}
     next_writes =
         let l : LeftOf waits left = subst (λ (all : List ℕ). LeftOf all left) laid (fill_left queue) in
         let mark = begun_mark left.rest in
-        let freed = frees bytes start used l.sent passed.long passed.within passed.most (omega (arith, l.within, size))
+        let freed = frees bytes sender l.sent passed.long passed.within passed.most (omega (arith, l.within, size))
         (l.sent - length mark) mark (layout left) (omega (arith, l.covers)) l.is refl in
         ring_is ∙ sym freed.bytes ∙ ap (λ (at : ℕ). ring_written bytes at 0 mark) (freed.begins ∙ sym start_is)
 

@@ -1,18 +1,24 @@
 -- What a frame that is not refused may lean on, how filling and freeing meet the contract of `next_frame`, and that any two of its outcomes are equal.
 use mathlib.Core.Path.{◌≡◌, refl, sym, ap, subst, ◌∙◌}
-use mathlib.Core.Bool.{Bool, true, false, cond, ◌&&◌}
+use mathlib.Core.Bool.{true, cond, ◌&&◌, and-true}
 use mathlib.Core.Option.{Option, none, some}
 use mathlib.Core.List.{List, [], ◌∷◌, ◌++◌}
 use Prim.Native.Nat.{ℕ, ◌≤◌, ◌<◌}
 use native.Mathlib.Omega.{arith}
 use lib.Dec.{eqb, leb}
 use lib.ListN.{length, drop}
-use borrow.Author.Tests.{eqb-true, leb-true, eq-eqb, ne_eqb}
+use borrow.Author.Tests.{eqb-true, leb-true, eq-eqb, ne_eqb, le-leb}
 use Rattle.basics.specs.Lists.{Bytes}
 use Rattle.basics.proofs.Lists.{bytes_take}
 use Rattle.basics.proofs.Tests.{left_true, right_true}
-use Rattle.refusals.specs.Table.{by, answer_by}
+use Rattle.std.specs.Prelude.{Result, Ok, Err}
+use Rattle.refusals.specs.Numbers.{answer_by, judged_by}
+use Rattle.refusals.specs.Table.{Row, ◌unless◌, first_of}
+use Rattle.refusals.specs.declared.Refusal.{Refusal}
+use Rattle.refusals.proofs.Numbers.{passed, answered}
 use Rattle.refusals.proofs.Table.{unless_passed}
+use Rattle.sender.specs.Waiting.{waiting_table, waiting_refusal}
+use Rattle.sender.proofs.Judging.{ring_refused, ring_taken}
 use Rattle.link.specs.Link.{Packet, Queue}
 use Rattle.link.specs.Store.{layout_rest, layout_packets, layout}
 use Rattle.link.specs.Parsing.{is_whole}
@@ -30,10 +36,9 @@ use Rattle.marks.proofs.Used.{used_length, ring_passed}
 use Rattle.marks.proofs.Parsed.{whole_parsed}
 use Rattle.sender.specs.Filling.{remaining, FillOutcome, Freed}
 use Rattle.sender.specs.declared.filling.Filled.{Filled}
-use Rattle.sender.specs.declared.filling.Left.{Left}
 use Rattle.sender.specs.declared.Sender.{Sender}
 use Rattle.sending.specs.Next.{kind_for, left_in, next_refusal}
-use Rattle.sending.specs.declared.NextAnswer.TheVariants.{Sent, Refused}
+use Rattle.sending.specs.declared.Sent.{Sent}
 
 pub record NextPassed (taps : ℕ) (fields : Fields) (start used : ℕ) (queue out : List ℕ) : Type 0 where
   pub allowed : taps_allowed taps ≡ true
@@ -63,6 +68,29 @@ next_passed taps fields start used queue out e =
       fits = fits.0;
     }
 
+-- ---- what the judge answers
+
+-- what is judged behind the ring
+abbrev later_rows : Fields → List Row
+later_rows fields = 6 unless fields_fit fields ∷ []
+
+module _ (taps : ℕ) (fields : Fields) (start used : ℕ) (queue out : List ℕ) where
+  pub next_judged : {given : Unit {0}} → Ok given ≡ judged_by (next_refusal taps fields start used queue out) → NextPassed taps fields start used queue out
+  next_judged e = next_passed taps fields start used queue out (passed _ _ _ e)
+
+  module _ (allowed : taps_allowed taps ≡ true) (room : 2081 ≤ length out) where
+    by_ring : next_refusal taps fields start used queue out ≡ first_of (waiting_table queue start used ++ later_rows fields)
+    unfolding next_refusal first_of
+    by_ring = simp (allowed, le-leb 2081 (length out) room, and-true)
+
+    pub ring_first : {refusal : Refusal} → Err refusal ≡ judged_by (waiting_refusal queue start used)
+        → Err refusal ≡ judged_by (next_refusal taps fields start used queue out)
+    ring_first e = ring_refused queue start used (later_rows fields) e ∙ ap judged_by (sym by_ring)
+
+    pub fields_then : {given : Unit {0}} → Ok given ≡ judged_by (waiting_refusal queue start used)
+        → next_refusal taps fields start used queue out ≡ first_of (later_rows fields)
+    fields_then e = by_ring ∙ ring_taken queue start used (later_rows fields) e
+
 -- ---- from what filling did to the contract
 
 -- a queue is busy where it has bytes
@@ -76,43 +104,44 @@ busy_kind q used = go q.rest q.waiting
     go none (p ∷ ps) e = rw (ne_eqb used 0 (λ z. omega arith))
     go (some rest) ps e = rw (ne_eqb used 0 (λ z. omega arith))
 
-module _ {taps : ℕ} {fields : Fields} {start used : ℕ} {queue out : List ℕ} (p : NextPassed taps fields start used queue out) where
+module _ {taps : ℕ} {fields : Fields} (sender : Sender) {queue out : List ℕ} (p : NextPassed taps fields sender.start sender.used queue out) where
   abbrev bytes : List ℕ
-  bytes = used_in queue start used
+  bytes = used_in queue sender.start sender.used
 
   abbrev waiting : Queue
-  waiting = waiting_in queue start used
+  waiting = waiting_in queue sender.start sender.used
 
-  pub used_is : length bytes ≡ used
-  used_is = used_length queue start used (omega (arith, p.most, p.long))
+  pub used_is : length bytes ≡ sender.used
+  used_is = used_length queue sender.start sender.used (omega (arith, p.most, p.long))
 
-  pub kind_is : Bytes queue → cond (eqb used 0) Idle Data ≡ kind_for waiting
+  pub kind_is : Bytes queue → cond (eqb sender.used 0) Idle Data ≡ kind_for waiting
   kind_is b =
-      let is = layout_back bytes waiting (bytes_take used (round_from start queue) (round_bytes start queue b)) (whole_parsed bytes p.whole) in
-      busy_kind waiting used (sym (ap length is ∙ used_is))
+      let is = layout_back bytes waiting (bytes_take sender.used (round_from sender.start queue) (round_bytes sender.start queue b)) (whole_parsed bytes p.whole) in
+      busy_kind waiting sender.used (sym (ap length is ∙ used_is))
 
   module _ {filled : Filled} {after : List ℕ} (o : FillOutcome bytes filled after) where
-    pub stop_within : filled.stop ≤ used
+    pub stop_within : filled.stop ≤ sender.used
     stop_within = omega (arith, o.inside, used_is)
 
     -- what freeing did, of the queue that is left
-    pub freed_is : {left : Left} {queue' : List ℕ} → Freed queue start used (remaining filled.unsent (drop filled.stop bytes)) left queue'
-        → Freed queue start used (layout (left_in waiting)) left queue'
-    freed_is {left} {queue'} f = subst (λ (rest : List ℕ). Freed queue start used rest left queue') (sym o.rest) f
+    pub freed_is : {left : Sender} {queue' : List ℕ} → Freed queue sender (remaining filled.unsent (drop filled.stop bytes)) left queue'
+        → Freed queue sender (layout (left_in waiting)) left queue'
+    freed_is {left} {queue'} f = subst (λ (rest : List ℕ). Freed queue sender rest left queue') (sym o.rest) f
 
 -- the answer tells that a frame was sent
-pub sent_so : (number : ℕ) (after sender : Sender) (kind kind' : FrameKind) → Sent after kind ≡ answer_by number (Sent sender kind') Refused
+pub sent_so : (number : ℕ) (after sender : Sender) (kind kind' : FrameKind)
+    → ◌≡◌ {A = Result Sent Refusal} (Ok (record { sender = after; kind = kind })) (answer_by number (record { sender = sender; kind = kind' }))
     → (number ≡ 0) × (after ≡ sender) × (kind ≡ kind')
-unfolding by
-sent_so number after sender kind kind' = go (eqb number 0) refl
-  where
-    go : (test : Bool) → eqb number 0 ≡ test → Sent after kind ≡ cond test (Sent sender kind') (Refused number)
-        → (number ≡ 0) × (after ≡ sender) × (kind ≡ kind')
-    go true t e = (eqb-true number 0 t, cc, cc)
-    go false t e = let z : ◌≡◌ {A = ℕ} 0 1 = cc in absurd (omega arith)
+sent_so number after sender kind kind' e =
+    let none = passed number _ _ e in
+    let given : ◌≡◌ {A = Result Sent Refusal} (Ok (record { sender = after; kind = kind })) (Ok (record { sender = sender; kind = kind' })) =
+    e ∙ sym (answered number _ _ none refl) in
+    let same : ◌≡◌ {A = Sent} (record { sender = after; kind = kind }) (record { sender = sender; kind = kind' }) = cc in
+    (none, ap (λ (s : Sent). s.sender) same, ap (λ (s : Sent). s.kind) same)
 
 -- an answer, part by part
 pub sent_path : {start start' used used' : ℕ} {next : Txfn} {count : ℕ} {kind kind' : FrameKind}
     → start ≡ start' → used ≡ used' → next.0 ≡ count → kind ≡ kind'
-    → Sent (record { start = start; used = used; next = next }) kind ≡ Sent (record { start = start'; used = used'; next = record { 0 = count } }) kind'
-sent_path o p q r i = Sent (record { start = o i; used = p i; next = record { 0 = q i } }) (r i)
+    → ◌≡◌ {A = Sent} (record { sender = record { start = start; used = used; next = next }; kind = kind })
+    (record { sender = record { start = start'; used = used'; next = record { 0 = count } }; kind = kind' })
+sent_path o p q r i = record { sender = record { start = o i; used = p i; next = record { 0 = q i } }; kind = r i }

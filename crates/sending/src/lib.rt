@@ -19,25 +19,16 @@ pub struct Sent {
 }
 
 // Refusals: 1, 2, 3, 6.
-#[tactic(auto, unfolding(crate::specs::Next::next_refusal, refusals::specs::Table::first_of, refusals::specs::Table::by, refusals::specs::Numbers::refusal_of))]
-fn judge(
-    taps: u32,
-    fields: Fields,
-    sender: Sender,
-    queue: &[u8],
-    out: &[u8],
-) -> Result<(), Refusal>
+fn judge(taps: u32, fields: Fields, sender: Sender, queue: &[u8], out: &[u8]) -> Result<(), Refusal>
     ensures { result ≡ judged_by (next_refusal taps fields sender.start sender.used queue.now out.now) }
 {
     if !scrambler::are_taps(taps) {
         return Err(Refusal::Taps);
     }
-    if queue.len() != sizes::QUEUE_SIZE || out.len() < sizes::FRAME_SIZE {
+    if out.len() < sizes::FRAME_SIZE {
         return Err(Refusal::Size);
     }
-    if !marks::is_ring_whole(queue, sender.start, sender.used) {
-        return Err(Refusal::State);
-    }
+    sender.judge(queue)?;
     if !header::coding::fields_fit(fields) {
         return Err(Refusal::SentField);
     }
@@ -56,7 +47,7 @@ fn kind_for(used: usize) -> FrameKind
 }
 
 // Builds the next frame at the front of out, and takes what it carries off the ring. TXFN steps for every type. Refusals: 1, 2, 3, 6.
-#[tactic(auto, using(crate::proofs::Sending::next_passed))]
+#[tactic(auto, using(crate::proofs::Sending::next_judged))]
 pub fn next_frame(
     taps: u32,
     fields: Fields,
@@ -70,14 +61,15 @@ pub fn next_frame(
     let mut area = [0; sizes::AREA_SIZE];
     let filled = filling::fill(queue, sender, &mut area);
     let left = filling::free_front(queue, sender, filled);
-    let txfn = sender.next;
-    let kind = kind_for(sender.used);
-    frame::build(taps, Header { txfn, kind, fields }, &area, out);
+    let header = Header {
+        txfn: sender.next,
+        kind: kind_for(sender.used),
+        fields,
+    };
+    frame::build(taps, header, &area, out);
+    let next = sender.next.next();
     Ok(Sent {
-        sender: Sender {
-            next: txfn.next(),
-            ..left
-        },
-        kind,
+        sender: Sender { next, ..left },
+        kind: header.kind,
     })
 }
