@@ -1,12 +1,11 @@
 // The parts of a frame that is built.
 ghost use Rattle.std.specs.Prelude.{◌≡◌, ◌++◌, ◌+◌, ◌≤◌, length};
-ghost use Rattle.basics.specs.Sizes.{area_size};
 ghost use Rattle.lent.specs.Written.{written};
-ghost use Rattle.reed_solomon.specs.Code.{parity};
 ghost use Rattle.scrambler.specs.Scrambler.{scrambled};
 ghost use Rattle.header.specs.Header.{all_ones};
 ghost use Rattle.frame.specs.Frame.{preamble, coded_header_with, area_check, area_payload};
 
+use basics::sizes;
 use header::Header;
 use reed_solomon::interleaving;
 
@@ -18,20 +17,13 @@ pub fn preamble() -> [u8; 9]
     PREAMBLE
 }
 
-pub fn coded_header(header: Header) -> [u8; 32]
+fn coded_header(header: Header) -> [u8; 32]
     ensures { result ≡ coded_header_with all_ones header }
 {
     let bytes = header::coding::header_bytes(header);
-    with_parity(&bytes)
-}
-
-fn with_parity(bytes: &[u8]) -> [u8; 32]
-    requires { length bytes.now ≡ 16 }
-    ensures { result ≡ bytes.now ++ parity bytes.now }
-{
-    let parity = reed_solomon::parity_of(bytes);
-    let mut coded = [0u8; 32];
-    write_both(&mut coded, bytes, &parity);
+    let parity = reed_solomon::parity_of(&bytes);
+    let mut coded = [0; 32];
+    write_both(&mut coded, &bytes, &parity);
     coded
 }
 
@@ -40,40 +32,30 @@ fn with_parity(bytes: &[u8]) -> [u8; 32]
 pub fn area_check(area: &[u8]) -> [u8; 4]
     ensures { result ≡ area_check area.now }
 {
-    let sum = crc::crc_32(area);
-    [
-        (sum / 16777216 % 256) as u8,
-        (sum / 65536 % 256) as u8,
-        (sum / 256 % 256) as u8,
-        (sum % 256) as u8,
-    ]
+    crc::crc_32(area).to_be_bytes()
 }
 
-fn area_payload(area: &[u8]) -> [u8; 2040]
-    requires { length area.now ≡ area_size }
-    ensures { result ≡ area_payload area.now }
+// The area and its check sum, coded into eight interleaved words.
+fn fill_payload(area: &[u8; sizes::AREA_SIZE], payload: &mut [u8])
+    requires { length payload.old ≡ 2040 }
+    ensures { payload.new ≡ area_payload area.now }
 {
-    let check = area_check(area);
-    let mut payload = [0u8; 2040];
-    write_both(&mut payload, area, &check);
-    interleaving::write_parity(&mut payload);
-    payload
+    write_both(payload, area, &area_check(area));
+    interleaving::write_parity(payload);
 }
 
-// The coded header and the area's payload, scrambled without a break.
-pub fn scrambled_body(taps: u32, head: &[u8], area: &[u8]) -> [u8; 2072]
-    requires { (length head.now ≡ 32) × (length area.now ≡ area_size) }
-    ensures { result ≡ scrambled taps (head.now ++ area_payload area.now) }
+// All that follows the preamble: the coded header and the area's payload, scrambled without a break.
+pub fn fill_part(taps: u32, header: Header, area: &[u8; sizes::AREA_SIZE], part: &mut [u8])
+    requires { length part.old ≡ 2072 }
+    ensures { part.new ≡ scrambled taps (coded_header_with all_ones header ++ area_payload area.now) }
 {
-    let payload = area_payload(area);
-    let mut body = [0u8; 2072];
-    write_both(&mut body, head, &payload);
-    scrambler::scramble(taps, &mut body);
-    body
+    lent::write_at(part, 0, &coded_header(header));
+    fill_payload(area, &mut part[32..]);
+    scrambler::scramble(taps, part);
 }
 
 // Writes first to the front of buffer and second behind it, and touches nothing else.
-pub fn write_both(buffer: &mut [u8], first: &[u8], second: &[u8])
+fn write_both(buffer: &mut [u8], first: &[u8], second: &[u8])
     requires { length first.now + length second.now ≤ length buffer.old }
     ensures { buffer.new ≡ written buffer.old 0 (first.now ++ second.now) }
 {

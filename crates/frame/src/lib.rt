@@ -3,32 +3,21 @@
 
 mod coding;
 
-ghost use Rattle.std.specs.Prelude.{◌≡◌, ◌++◌, ◌≤◌, length};
-ghost use Rattle.basics.specs.Sizes.{area_size, frame_size};
+ghost use Rattle.std.specs.Prelude.{◌≡◌, ◌≤◌, length};
+ghost use Rattle.basics.specs.Sizes.{frame_size};
 ghost use Rattle.lent.specs.Written.{written};
-ghost use Rattle.scrambler.specs.Scrambler.{scrambled};
-ghost use Rattle.frame.specs.Frame.{preamble, area_payload, frame_bytes};
+ghost use Rattle.frame.specs.Frame.{frame_bytes};
 
+use basics::sizes;
 pub use coding::{area_check, preamble};
 use header::Header;
 
 // Builds the frame of a header and an area of 1,908 bytes at the front of out.
 #[tactic(auto, unfolding(crate::specs::Frame::frame_bytes_with))]
-pub fn build(taps: u32, header: Header, area: &[u8], out: &mut [u8])
-    requires { (length area.now ≡ area_size) × (frame_size ≤ length out.old) }
+pub fn build(taps: u32, header: Header, area: &[u8; sizes::AREA_SIZE], out: &mut [u8])
+    requires { frame_size ≤ length out.old }
     ensures { out.new ≡ written out.old 0 (frame_bytes taps header area.now) }
 {
-    let head = coding::coded_header(header);
-    write_frame(taps, &head, area, out);
-}
-
-// The same of a header that is coded.
-fn write_frame(taps: u32, head: &[u8], area: &[u8], out: &mut [u8])
-    requires { (length head.now ≡ 32) × (length area.now ≡ area_size) × (frame_size ≤ length out.old) }
-    ensures { out.new ≡ written out.old 0
-        (preamble ++ scrambled taps (head.now ++ area_payload area.now)) }
-{
-    let preamble = coding::preamble();
-    let body = coding::scrambled_body(taps, head, area);
-    coding::write_both(out, &preamble, &body);
+    lent::write_at(out, 0, &coding::preamble());
+    coding::fill_part(taps, header, area, &mut out[9..sizes::FRAME_SIZE]);
 }

@@ -30,15 +30,13 @@ pub fn judge_outside(taps: u32, frame: &[u8], area: &[u8]) -> Result<(), Refusal
     Ok(())
 }
 
-// The 2,072 bytes after the preamble, with the scrambler's bits taken off.
-pub fn unscrambled(taps: u32, frame: &[u8]) -> [u8; 2072]
+// The 2,072 bytes after the preamble, with the scrambler's bits taken off. They are written where they are wanted: handed out, they would be copied twice more.
+pub fn unscramble(taps: u32, frame: &[u8], body: &mut [u8; 2072])
     requires { length frame.now ≡ frame_size }
-    ensures { result ≡ unscrambled taps frame.now }
+    ensures { body.new ≡ unscrambled taps frame.now }
 {
-    let mut body = [0u8; 2072];
     body.copy_from_slice(&frame[9..]);
-    scrambler::scramble(taps, &mut body);
-    body
+    scrambler::scramble(taps, body);
 }
 
 // The header's 16 bytes, which begin the body.

@@ -24,7 +24,8 @@ pub fn open(taps: u32, frame: &[u8], area: &mut [u8]) -> Result<Opened, Refusal>
     ensures { OpenOutcome taps frame.now area.old result area.new }
 {
     judging::judge_outside(taps, frame, area)?;
-    let mut body = judging::unscrambled(taps, frame);
+    let mut body = [0; 2072];
+    judging::unscramble(taps, frame, &mut body);
     let near = body::repair_body(&mut body);
     judging::judge_inside(near.header, near.words, &body)?;
     lent::write_at(area, 0, &body[32..judging::AREA_END]);

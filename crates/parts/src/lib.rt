@@ -8,14 +8,13 @@ ghost use Rattle.nearest.specs.Near.{near_word, repaired_word};
 ghost use Rattle.header.specs.Header.{flag_bit};
 ghost use Rattle.crc.specs.Crc.{crc_32};
 ghost use Rattle.scrambler.specs.Scrambler.{scrambled};
-ghost use Rattle.opening.specs.Opening.{open_refusal, open_number};
+ghost use Rattle.opening.specs.Opening.{open_refusal};
 ghost use Rattle.parts.specs.Parts.{plain_header, parity_out, remainders_out, built_out, opened_out};
 
 use basics::sizes;
 use counts::{Rxfn, Txfn};
 use fast_channel::FastChannel;
 use header::{Fields, FrameKind, Header};
-use opening::OpenAnswer;
 use reed_solomon::interleaving;
 
 #[unsafe(no_mangle)]
@@ -100,25 +99,13 @@ fn plain_header() -> Header
 pub extern "C" fn part_build(taps: u32, area: &[u8], out: &mut [u8])
     ensures { out.new ≡ built_out taps area.now out.old }
 {
-    if area.len() != sizes::AREA_SIZE {
+    let Some(area) = area.as_array() else {
         return;
-    }
+    };
     if out.len() < sizes::FRAME_SIZE {
         return;
     }
     frame::build(taps, plain_header(), area, out);
-}
-
-fn number_of(answer: OpenAnswer) -> u8
-    ensures { result ≡ open_number answer }
-{
-    match answer {
-        OpenAnswer::Opened {
-            header: _,
-            repaired: _,
-        } => 0,
-        OpenAnswer::Refused(number) => number,
-    }
 }
 
 #[unsafe(no_mangle)]
@@ -126,5 +113,8 @@ pub extern "C" fn part_open(taps: u32, frame: &[u8], area: &mut [u8]) -> u8
     ensures value { result ≡ open_refusal taps frame.now area.old }
     ensures bytes { area.new ≡ opened_out taps frame.now area.old }
 {
-    number_of(opening::open(taps, frame, area))
+    match opening::open(taps, frame, area) {
+        Ok(_) => 0,
+        Err(refusal) => u8::from(refusal),
+    }
 }

@@ -13,8 +13,8 @@ returns-in_err-judge_outside c =
     let same : c.from_residual.result ≡ Err c.in_err-judge_outside.field-0.0 = search rules in
     record { answer = same ∙ refused _ _ _ _ judged; bytes = kept _ _ _ _ _ judged }
 
-pub unscrambled-body-requires : goal.unscrambled-body-requires
-unscrambled-body-requires c = (outside_passed _ _ _ (passed _ _ _ (sym c.in_ok-judge_outside.was ∙ c.judge_outside.ensures))).long
+pub unscramble-requires : goal.unscramble-requires
+unscramble-requires c = (outside_passed _ _ _ (passed _ _ _ (sym c.in_ok-judge_outside.was ∙ c.judge_outside.ensures))).long
 
 pub write_at-requires : goal.write_at-requires
 write_at-requires c =
@@ -25,7 +25,7 @@ write_at-requires c =
 pub returns-in_err-judge_inside : goal.returns-in_err-judge_inside
 returns-in_err-judge_inside c =
     let none = passed _ _ _ (sym c.in_ok-judge_outside.was ∙ c.judge_outside.ensures) in
-    let number = inside_number _ _ _ none c.unscrambled-body.ensures c.repair_body-near.ensures in
+    let number = inside_number _ _ _ none c.unscramble.ensures c.repair_body-near.ensures in
     let judged = sym c.in_err-judge_inside.was ∙ c.judge_inside.ensures ∙ ap judged_by number in
     let same : c.from_residual-in_err-judge_inside.result ≡ Err c.in_err-judge_inside.field-0.0 = search rules in
     record { answer = same ∙ refused _ _ _ _ judged; bytes = kept _ _ _ _ _ judged }
@@ -33,7 +33,7 @@ returns-in_err-judge_inside c =
 pub returns : goal.returns
 returns c =
     let outside = passed _ _ _ (sym c.in_ok-judge_outside.was ∙ c.judge_outside.ensures) in
-    let came = c.unscrambled-body.ensures in
+    let came = c.unscramble.ensures in
     let repaired = c.repair_body-near.ensures in
     let none = sym (inside_number _ _ _ outside came repaired) ∙ passed _ _ _ (sym c.in_ok-judge_inside.was ∙ c.judge_inside.ensures) in
     record {

@@ -1,7 +1,11 @@
 -- The answer's number is that of the refusal (`open_numbers`).
-use Rattle.std.proofs.Common.{◌∙◌}
+use Rattle.std.proofs.Common.{◌∙◌, sym, ap}
+use Rattle.refusals.specs.Numbers.{number_in}
 use Rattle.opening.proofs.Theorems.{open_numbers}
 use Rattle.parts.proofs.part_open.Goals as goal
 
-pub returns-clause-value : goal.returns-clause-value
-returns-clause-value c = c.number_of.ensures ∙ open_numbers c.«open».ensures
+pub returns-in-Ok-clause-value : goal.returns-in-Ok-clause-value
+returns-in-Ok-clause-value c = sym (ap number_in c.in-Ok.is) ∙ open_numbers c.«open».ensures
+
+pub returns-in-Err-clause-value : goal.returns-in-Err-clause-value
+returns-in-Err-clause-value c = c.from.ensures ∙ sym (ap number_in c.in-Err.is) ∙ open_numbers c.«open».ensures

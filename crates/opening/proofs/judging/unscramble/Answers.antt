@@ -3,7 +3,7 @@ use Rattle.std.proofs.Common.{ap, ◌∙◌, ◌≡◌, arith, length, drop, len
 use Rattle.basics.proofs.Lists.{cut_rest_lem}
 use Rattle.opening.specs.Opening.{unscrambled}
 use Rattle.scrambler.specs.Scrambler.{scrambled}
-use Rattle.opening.proofs.judging.unscrambled.Goals as goal
+use Rattle.opening.proofs.judging.unscramble.Goals as goal
 
 pub returns : goal.returns
 unfolding unscrambled
