@@ -202,7 +202,7 @@ frame_again_so : (taps : ℕ) (frame before : List ℕ) (opened : Opened) (after
     × (length area ≡ 1908) × Bytes area × (after ≡ written before 0 area)
     × (opened.repaired ≡ differences frame (frame_bytes_with taps (opened_reserved taps frame) opened.header area)))
 frame_again_so taps frame before opened after o =
-    let b = near_of_open taps frame before opened after o in
+    let b = near_of_open taps frame before opened.header opened.repaired after o in
     (opened_area taps frame, (b.0.near, b.0.may_be_sent, b.0.long, b.0.bytes, b.1, b.0.counted))
 
 scrambles : (taps : ℕ) → Scrambles taps
