@@ -12,10 +12,11 @@ use lib.ListN.{length}
 use Rattle.basics.specs.Sizes.{queue_size, most_packet}
 use Rattle.basics.specs.Numbers.{above}
 use Rattle.std.specs.Prelude.{Option, Result, Err}
-use Rattle.refusals.specs.Numbers.{refusal_of, number_in}
+use Rattle.refusals.specs.Numbers.{number_of, number_in}
 use Rattle.refusals.specs.Table.{Row, ◌when◌, ◌unless◌, first_of}
 use Rattle.refusals.specs.declared.Refusal.{Refusal}
 use Rattle.refusals.specs.declared.Refusal.TheVariants.{Taps, Size, ListPosition}
+use Rattle.refusals.proofs.Numbers.{refusal_back}
 use Rattle.refusals.proofs.Table.{numbers_of}
 use Rattle.scrambler.specs.Scrambler.{taps_allowed}
 use Rattle.header.specs.Calls.{code_table, CodeHeaderOutcome}
@@ -56,19 +57,19 @@ use Rattle.flat.specs.declared.FlatPacket.{FlatPacket}
 use Rattle.taqwelim.specs.Calls.{FreshSenderCall, PutCall, WaitingCall, NextCall, FreshReceiverCall, OpenCall, RepairCall, ApplyCall, EntryCall}
 use Rattle.taqwelim.specs.Calls.{PacketCall, CodeCall, ReadCall, LevelCall}
 use Rattle.demands.specs.Demand1.{Demand1, RefusesWith, RefusesByTable}
-use Rattle.demands.proofs.Outcomes.{among, first_among, refused_as}
+use Rattle.demands.proofs.Outcomes.{among, first_among, number_above, refused_as}
 use Rattle.demands.proofs.Demand1.{every_call_holds}
 use Rattle.demands.proofs.CallsForC.{every_call_for_c_holds}
 
 -- The row that applies first is the one given: the answer for its refusal, and every lent byte as it was (`number`, `refused`, `refusal`).
-module _ {A B : Type 0} {Meets : A → B → Type 0} {before : B} {number_of : A → ℕ} {refused : Refusal → A} {table : List Row}
-    (demand : Demand1 Meets before number_of (RefusesWith refused) table) where
-  first_given : (n : ℕ) → first_of table ≡ n → (n ≡ 0 → ⊥) → (answer : A) (after : B) → Meets answer after
-      → (answer ≡ refused (refusal_of n)) × (after ≡ before)
-  first_given n first ne answer after o =
+module _ {A B : Type 0} {Meets : A → B → Type 0} {before : B} {number_by : A → ℕ} {refused : Refusal → A} {table : List Row}
+    (demand : Demand1 Meets before number_by (RefusesWith refused) table) where
+  first_given : (refusal : Refusal) → first_of table ≡ number_of refusal → (answer : A) (after : B) → Meets answer after
+      → (answer ≡ refused refusal) × (after ≡ before)
+  first_given refusal first answer after o =
       let e = demand.number answer after o ∙ first in
-      let refuses = subst (RefusesWith refused answer) e (demand.refused answer after o (λ z. ne (sym e ∙ z))) in
-      (refused_as refuses, (demand.refusal answer n after o refuses).1)
+      let refuses = subst (RefusesWith refused answer) e (demand.refused answer after o (λ z. number_above refusal (sym e ∙ z))) in
+      (refused_as refuses ∙ ap refused (refusal_back refusal), (demand.refusal answer (number_of refusal) after o refuses).1)
 
 -- ---- the numbers of each call, in its order (01, "Refusal numbers"; 02, M-106 and M-101)
 
@@ -105,27 +106,27 @@ numbers_of_entry list position = refl
 
 pub put_refused : (sender : Sender) (packet : List ℕ) (answer : Result Sender Refusal) (after : List ℕ) → PutOutcome [] sender packet answer after
     → (answer ≡ Err Size) × (after ≡ [])
-unfolding first_of refusal_of
-put_refused sender packet = first_given (every_call_holds.put [] sender packet) 2 refl (λ z. omega arith)
+unfolding first_of
+put_refused sender packet = first_given (every_call_holds.put [] sender packet) Size refl
 
 pub waiting_refused : (sender : Sender) (answer : Result Counted Refusal) → WaitingOutcome [] sender answer → answer ≡ Err Size
-unfolding first_of refusal_of
-waiting_refused sender answer o = (first_given (every_call_holds.waiting [] sender) 2 refl (λ z. omega arith) answer tt o).0
+unfolding first_of
+waiting_refused sender answer o = (first_given (every_call_holds.waiting [] sender) Size refl answer tt o).0
 
 pub next_refused : (fields : Fields) (sender : Sender) (queue out : List ℕ) (answer : Result Sent Refusal) (after : List ℕ × List ℕ)
     → NextOutcome 0 fields sender queue out answer after.0 after.1 → (answer ≡ Err Taps) × (after ≡ (queue, out))
-unfolding first_of refusal_of taps_allowed
-next_refused fields sender queue out = first_given (every_call_holds.next_frame 0 fields sender queue out) 1 refl (λ z. omega arith)
+unfolding first_of taps_allowed
+next_refused fields sender queue out = first_given (every_call_holds.next_frame 0 fields sender queue out) Taps refl
 
 pub open_refused : (frame area : List ℕ) (answer : Result Opened Refusal) (after : List ℕ)
     → OpenOutcome 0 frame area answer after → (answer ≡ Err Taps) × (after ≡ area)
-unfolding first_of refusal_of taps_allowed
-open_refused frame area = first_given (every_call_holds.open_frame 0 frame area) 1 refl (λ z. omega arith)
+unfolding first_of taps_allowed
+open_refused frame area = first_given (every_call_holds.open_frame 0 frame area) Taps refl
 
 pub repair_refused : (part scratch : List ℕ) (answer : Result ℕ Refusal) (after : List ℕ)
     → RepairOutcome 0 part scratch answer after → (answer ≡ Err Taps) × (after ≡ scratch)
-unfolding first_of refusal_of taps_allowed
-repair_refused part scratch = first_given (every_call_holds.repair 0 part scratch) 1 refl (λ z. omega arith)
+unfolding first_of taps_allowed
+repair_refused part scratch = first_given (every_call_holds.repair 0 part scratch) Taps refl
 
 -- one part is shown, and after a refusal it is empty
 pub shown_none : (refusal : Refusal) (part scratch : Bor (List ℕ)) (r : List ℕ × (ℕ × ℕ))
@@ -137,21 +138,21 @@ shown_none refusal part scratch r o =
 
 pub apply_refused : (header : Header) (receiver : Receiver) (hold list : List ℕ) (answer : Result Applied Refusal) (after : List ℕ × List ℕ)
     → ApplyOutcome header [] receiver hold list answer after.0 after.1 → (answer ≡ Err Size) × (after ≡ (hold, list))
-unfolding first_of refusal_of
-apply_refused header receiver hold list = first_given (every_call_holds.apply header [] receiver hold list) 2 refl (λ z. omega arith)
+unfolding first_of
+apply_refused header receiver hold list = first_given (every_call_holds.apply header [] receiver hold list) Size refl
 
 pub code_refused : (header : Header) (answer : Result (Unit {0}) Refusal) (after : List ℕ)
     → CodeHeaderOutcome header [] answer after → (answer ≡ Err Size) × (after ≡ [])
-unfolding first_of refusal_of
-code_refused header = first_given (every_call_holds.code_header header []) 2 refl (λ z. omega arith)
+unfolding first_of
+code_refused header = first_given (every_call_holds.code_header header []) Size refl
 
 pub read_refused : (answer : Result Header Refusal) → ReadHeaderOutcome [] answer → answer ≡ Err Size
-unfolding first_of refusal_of
-read_refused answer o = (first_given (every_call_holds.read []) 2 refl (λ z. omega arith) answer tt o).0
+unfolding first_of
+read_refused answer o = (first_given (every_call_holds.read []) Size refl answer tt o).0
 
 pub entry_refused : (answer : Result (Option Place) Refusal) → EntryOutcome [] 1 answer → answer ≡ Err ListPosition
-unfolding first_of refusal_of length_at
-entry_refused answer o = (first_given (every_call_holds.entry [] 1) 16 refl (λ z. omega arith) answer tt o).0
+unfolding first_of length_at
+entry_refused answer o = (first_given (every_call_holds.entry [] 1) ListPosition refl answer tt o).0
 
 -- there is one answer (`one_outcome`): no bytes of an empty list, and the level of 255
 pub packet_none : (from : ℕ × ℕ) (part : List ℕ) (at : ℕ × ℕ) → PacketOutcome [] from 0 part at → part ≡ []
@@ -210,45 +211,45 @@ never_0 queue sender packet answer after o h = ((every_call_holds.put queue send
 
 pub c_put_refused : (sender : FlatSender) (packet : List ℕ) (r : FlatPut) (after : List ℕ) → PutCall [] sender packet r after
     → r ≡ record { sender = sender; refusal = 2 }
-unfolding first_of refusal_of
-c_put_refused sender packet r after o = (first_given (every_call_for_c_holds.put [] sender packet) 2 refl (λ z. omega arith) r after o).0
+unfolding first_of
+c_put_refused sender packet r after o = (first_given (every_call_for_c_holds.put [] sender packet) Size refl r after o).0
 
 pub c_waiting_refused : (sender : FlatSender) (r : FlatWaiting) → WaitingCall [] sender r → r ≡ record { packets = 0; bytes = 0; refusal = 2 }
-unfolding first_of refusal_of
-c_waiting_refused sender r o = (first_given (every_call_for_c_holds.waiting [] sender) 2 refl (λ z. omega arith) r tt o).0
+unfolding first_of
+c_waiting_refused sender r o = (first_given (every_call_for_c_holds.waiting [] sender) Size refl r tt o).0
 
 pub c_next_refused : (fields : FlatFields) (sender : FlatSender) (queue out : List ℕ) (r : FlatNext) (queue' out' : List ℕ)
     → NextCall 0 fields sender queue out r queue' out' → r ≡ record { sender = sender; kind = 0; refusal = 1 }
-unfolding first_of refusal_of taps_allowed
+unfolding first_of taps_allowed
 c_next_refused fields sender queue out r queue' out' o =
-    (first_given (every_call_for_c_holds.next_frame 0 fields sender queue out) 1 refl (λ z. omega arith) r (queue', out') o).0
+    (first_given (every_call_for_c_holds.next_frame 0 fields sender queue out) Taps refl r (queue', out') o).0
 
 pub c_open_refused : (frame area : List ℕ) (r : FlatOpen) (after : List ℕ) → OpenCall 0 frame area r after → r ≡ record { header = no_header; repaired = 0; refusal = 1 }
-unfolding first_of refusal_of taps_allowed
-c_open_refused frame area r after o = (first_given (every_call_for_c_holds.open_frame 0 frame area) 1 refl (λ z. omega arith) r after o).0
+unfolding first_of taps_allowed
+c_open_refused frame area r after o = (first_given (every_call_for_c_holds.open_frame 0 frame area) Taps refl r after o).0
 
 pub c_repair_refused : (part scratch : List ℕ) (r : FlatRepair) (after : List ℕ) → RepairCall 0 part scratch r after
     → r ≡ record { repaired = 0; refusal = 1 }
-unfolding first_of refusal_of taps_allowed
-c_repair_refused part scratch r after o = (first_given (every_call_for_c_holds.repair 0 part scratch) 1 refl (λ z. omega arith) r after o).0
+unfolding first_of taps_allowed
+c_repair_refused part scratch r after o = (first_given (every_call_for_c_holds.repair 0 part scratch) Taps refl r after o).0
 
 pub c_apply_refused : (header : FlatHeader) (receiver : FlatReceiver) (hold list : List ℕ) (r : FlatApply) (hold' list' : List ℕ)
     → ApplyCall header [] receiver hold list r hold' list' → r ≡ record { receiver = receiver; packets = 0; listed = 0; missed = 0; refusal = 2 }
-unfolding first_of refusal_of
+unfolding first_of
 c_apply_refused header receiver hold list r hold' list' o =
-    (first_given (every_call_for_c_holds.apply header [] receiver hold list) 2 refl (λ z. omega arith) r (hold', list') o).0
+    (first_given (every_call_for_c_holds.apply header [] receiver hold list) Size refl r (hold', list') o).0
 
 pub c_entry_refused : (r : FlatEntry) → EntryCall [] 1 r → r ≡ record { start = 0; length = 0; next = 0; found = 0; refusal = 16 }
-unfolding first_of refusal_of length_at
-c_entry_refused r o = (first_given (every_call_for_c_holds.entry [] 1) 16 refl (λ z. omega arith) r tt o).0
+unfolding first_of length_at
+c_entry_refused r o = (first_given (every_call_for_c_holds.entry [] 1) ListPosition refl r tt o).0
 
 pub c_code_refused : (header : FlatHeader) (r : FlatCode) (after : List ℕ) → CodeCall header [] r after → r ≡ record { refusal = 2 }
-unfolding first_of refusal_of
-c_code_refused header r after o = (first_given (every_call_for_c_holds.code_header header []) 2 refl (λ z. omega arith) r after o).0
+unfolding first_of
+c_code_refused header r after o = (first_given (every_call_for_c_holds.code_header header []) Size refl r after o).0
 
 pub c_read_refused : (r : FlatRead) → ReadCall [] r → r ≡ record { header = no_header; refusal = 2 }
-unfolding first_of refusal_of
-c_read_refused r o = (first_given (every_call_for_c_holds.read []) 2 refl (λ z. omega arith) r tt o).0
+unfolding first_of
+c_read_refused r o = (first_given (every_call_for_c_holds.read []) Size refl r tt o).0
 
 pub c_fresh_sender : (r : FlatSender) → FreshSenderCall r → r ≡ record { start = 0; used = 0; next = 0 }
 c_fresh_sender r o = (every_call_for_c_holds.sender_begins.one_outcome r _ tt tt o refl).0

@@ -47,7 +47,6 @@ use Rattle.sender.proofs.Counts.{whole_counted}
 use Rattle.sender.specs.declared.Sender.{Sender}
 use Rattle.sender.specs.declared.Counted.{Counted}
 use Rattle.sending.specs.Next.{NextOutcome}
-use Rattle.sending.specs.declared.Sent.{Sent}
 use Rattle.receiver.specs.Applying.{fresh_receiver, apply_refusal, ApplyOutcome}
 use Rattle.receiver.specs.declared.Receiver.{Receiver}
 use Rattle.receiver.specs.declared.Applied.{Applied}

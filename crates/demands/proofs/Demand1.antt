@@ -1,7 +1,6 @@
 -- DEMAND 1 holds of every call.
 use mathlib.Core.Path.{◌≡◌, refl}
-use mathlib.Core.List.{List}
-use Prim.Native.Nat.{ℕ, ◌+◌}
+use Prim.Native.Nat.{◌+◌}
 use Rattle.refusals.specs.Numbers.{refusal_of}
 use Rattle.header.specs.Calls.{code_table, code_refusal, CodeHeaderOutcome}
 use Rattle.header_reading.specs.Reading.{read_table, read_refusal}

@@ -10,7 +10,7 @@ use Rattle.basics.specs.Lists.{Bytes}
 use Rattle.basics.specs.Sizes.{area_size}
 use Rattle.basics.proofs.Tests.{both_true}
 use Rattle.std.specs.Prelude.{Result, Ok}
-use Rattle.refusals.specs.Table.{first_of, by}
+use Rattle.refusals.specs.Table.{first_of}
 use Rattle.refusals.specs.declared.Refusal.{Refusal}
 use Rattle.lent.specs.Written.{written}
 use Rattle.refusals.proofs.Numbers.{stands}
@@ -20,7 +20,6 @@ use Rattle.scrambler.proofs.Laws.{scrambled_length}
 use Rattle.scrambler.proofs.Recurrence.{first_bits, recurrence, scrambled_byte}
 use Rattle.header.specs.Header.{all_ones, header_fits, fields_fit}
 use Rattle.header.specs.declared.Fields.{Fields}
-use Rattle.header.specs.declared.FrameKind.{FrameKind}
 use Rattle.header.specs.declared.Header.{Header}
 use Rattle.header_reading.proofs.Theorems.{read_of_coded, coded_of_read, sent_of_read}
 use Rattle.frame.specs.Frame.{frame_bytes, frame_bytes_with}
@@ -78,14 +77,14 @@ sends_so taps fields sender queue out sent queue' out' small o =
     let used = sender.used in
     let waiting = waiting_in queue start used in
     let n = next_refusal taps fields start used queue out in
-    let sent = sent_so n sender' (sender_after sender waiting) kind (kind_for waiting) o.answer in
-    let passed = next_passed taps fields start used queue out sent.0 in
+    let told = sent_so n sent.sender (sender_after sender waiting) sent.kind (kind_for waiting) o.answer in
+    let passed = next_passed taps fields start used queue out told.0 in
     let is_queue = parse_queue (used_in queue start used) waiting (whole_parsed (used_in queue start used) passed.whole) in
     let header = header_for sender fields waiting in
     let fits_header : header_fits header ≡ true = both_true _ (fields_fit fields) (lt-ltb sender.next.0 65536 small) passed.fits in
-    let frame : out' ≡ written out 0 (frame_bytes taps header (area_for waiting)) = o.frame ∙ sym (accepted n n _ out _ refl sent.0 refl) in
+    let frame : out' ≡ written out 0 (frame_bytes taps header (area_for waiting)) = o.frame ∙ sym (stands n _ out _ told.0 refl) in
     let size = frame_length all_ones header taps (area_for waiting) (area_length waiting is_queue) in
-    rw sent.2 (record {
+    rw told.2 (record {
       area = area_for waiting;
       coded = ap (take 2081) frame ∙ written_front out (frame_bytes taps header (area_for waiting)) 2081 size;
       may_be_sent = fits_header;

@@ -13,7 +13,7 @@ use Rattle.refusals.specs.declared.Refusal.{Refusal}
 use Rattle.refusals.specs.declared.Refusal.TheVariants.{ListPosition}
 use Rattle.refusals.proofs.Numbers.{known, numbered, refusal_back}
 use Rattle.refusals.proofs.Table.{numbers_of, rising_from, lowest_first}
-use Rattle.demands.specs.Demand1.{Demand1, RefusesWith, RefusesByTable, RefusesNothing}
+use Rattle.demands.specs.Demand1.{RefusesWith, RefusesByTable, RefusesNothing}
 
 -- whether a number is one of some
 abbrev pub among : ℕ → List ℕ → Bool
@@ -86,7 +86,12 @@ module _ {A B : Type 0} (Meets : Result A Refusal → B → Type 0) (done : A)
         (refused_above e, (tells r after o).1 ∙ same (λ z. refused_above e (number_is ∙ z)));
   }
 
--- .. with a buffer, which goes by the number too, with two, or with none
+-- what a refused call was lent is as it was
+pub refusal_keeps : {A B : Type 0} {Meets : Result A Refusal → B → Type 0} {before : B} {table : List Row} (demand : RefusesByTable Meets before table)
+    (refusal : Refusal) (after : B) → Meets (Err refusal) after → after ≡ before
+refusal_keeps demand refusal after o = (demand.refusal (Err refusal) (number_of refusal) after o (refusal, (refl, refl))).1
+
+-- Such calls with one buffer, which goes by the number as the answer does, with two, or with none.
 module _ {A : Type 0} (done : A) (table : List Row) (rising : rising_from 0 (numbers_of table) ≡ true) (listed : known (numbers_of table) ≡ true) where
   abbrev answer_so : Result A Refusal
   answer_so = answer_by (first_of table) done

@@ -8,7 +8,7 @@ use native.Mathlib.Nat.{add-zero, add-suc, suc-add}
 use native.Mathlib.Omega.{arith}
 use lib.ListN.{length, take}
 use Rattle.basics.specs.Counts.{next_txfn}
-use Rattle.std.specs.Prelude.{Some, Result, Ok, Err}
+use Rattle.std.specs.Prelude.{Result, Ok, Err}
 use Rattle.refusals.specs.Numbers.{refusal_of}
 use Rattle.refusals.specs.Table.{first_of}
 use Rattle.refusals.specs.declared.Refusal.{Refusal}
@@ -47,6 +47,7 @@ use Rattle.demands.specs.Demand3.{
   learned_from,
   learned,
 }
+use Rattle.demands.proofs.Outcomes.{refusal_keeps}
 use Rattle.demands.proofs.Demand1.{every_call_holds}
 use Rattle.demands.proofs.ReadBack.{apply_read}
 use Rattle.demands.proofs.Sender.{Sends, AllSend, own_pieces}
@@ -64,8 +65,7 @@ fresh_holds hold e = record { stands = refl; most = omega arith; long = e }
 hold_stays : (opened : Result Opened Refusal) (area : List ℕ) (receiver : Receiver) (hold list : List ℕ) (refusal : Refusal) (left after : List ℕ)
     → AppliedAs opened area receiver hold list (Err refusal) left after → left ≡ hold
 hold_stays (Ok opened) area receiver hold list refusal left after o =
-    ap (λ (lent : List ℕ × List ℕ). lent.0)
-    ((every_call_holds.apply opened.header area receiver hold list).refusal (Err refusal) _ (left, after) o (refusal, (refl, refl))).1
+    ap (λ (lent : List ℕ × List ℕ). lent.0) (refusal_keeps (every_call_holds.apply opened.header area receiver hold list) refusal (left, after) o)
 hold_stays (Err other) area receiver hold list refusal left after o = o.1
 
 -- ---- a frame that carries pieces is received as `Machine` says
@@ -136,6 +136,7 @@ module _ (taps : ℕ) (frame came : List ℕ) (near : NearFrame came frame) (rec
       })
 
   refuses : fits part pieces ≡ false → Takes receiver both.answer both.hold' both.list' as_model
+  unfolding refusal_of
   refuses e =
       let n = apply_refusal header area receiver hold both.list in
       let fifteen : n ≡ 15 =

@@ -6,9 +6,7 @@ use mathlib.Core.List.{List, [], ◌∷◌, map}
 use Prim.Native.Nat.{ℕ, suc, ◌%◌}
 use lib.ListN.{length}
 use Rattle.std.specs.Prelude.{Ok, Err}
-use Rattle.refusals.specs.declared.Refusal.{Refusal}
 use Rattle.header.specs.Header.{all_ones}
-use Rattle.header.specs.declared.Fields.{Fields}
 use Rattle.header.specs.declared.FrameKind.{FrameKind}
 use Rattle.header.specs.declared.FrameKind.TheVariants.{Idle, Data}
 use Rattle.header.specs.declared.Header.{Header}
@@ -27,14 +25,13 @@ use Rattle.marks.proofs.Parsed.{queue_is}
 use Rattle.packing.proofs.Filling.{load, fill_cut}
 use Rattle.packing.specs.Records.{read}
 use Rattle.packing.proofs.Bench.{bench}
-use Rattle.sender.specs.Put.{PutOutcome}
-use Rattle.sending.specs.Next.{NextOutcome}
 use Rattle.sender.specs.declared.Sender.{Sender}
 use Rattle.sender.proofs.Stands.{Stands}
 use Rattle.sender.proofs.Putting.{put_stands}
 use Rattle.sending.proofs.Carried.{Carries, next_stands}
 use Rattle.receiver.specs.Applying.{pieces_of, or_none}
 use Rattle.demands.specs.Demand3.{SenderCall, call_put, call_next, SenderCalls, packets_put, frames_sent, queue_left, pieces_carried}
+use Rattle.demands.proofs.Outcomes.{refusal_keeps}
 use Rattle.demands.proofs.Demand1.{every_call_holds}
 
 -- the calls that were not refused
@@ -44,11 +41,6 @@ granted (call_put packet (Ok after) queue ∷ calls) = machine.put packet ∷ gr
 granted (call_put packet (Err refusal) queue ∷ calls) = granted calls
 granted (call_next fields out (Ok sent) queue after ∷ calls) = machine.next ∷ granted calls
 granted (call_next fields out (Err refusal) queue after ∷ calls) = granted calls
-
--- a refusal leaves the queue
-put_kept : (queue : List ℕ) (sender : Sender) (packet : List ℕ) (refusal : Refusal) (after : List ℕ)
-    → PutOutcome queue sender packet (Err refusal) after → after ≡ queue
-put_kept queue sender packet refusal after o = ((every_call_holds.put queue sender packet).refusal (Err refusal) _ after o (refusal, (refl, refl))).1
 
 -- frames of 2,081 bytes
 abbrev pub AllLong : List (List ℕ) → Type 0
@@ -125,12 +117,6 @@ module _ (taps : ℕ) where
 
   -- ---- the calls, from a state that stands for a queue after i frames
 
-  next_kept : (fields : Fields) (sender : Sender) (queue out : List ℕ) (refusal : Refusal) (left after : List ℕ)
-      → NextOutcome taps fields sender queue out (Err refusal) left after → left ≡ queue
-  next_kept fields sender queue out refusal left after o =
-      ap (λ (lent : List ℕ × List ℕ). lent.0)
-      ((every_call_holds.next_frame taps fields sender queue out).refusal (Err refusal) _ (left, after) o (refusal, (refl, refl))).1
-
   bench_pieces : (q : Queue) → IsQueue q → pieces_in bench (frame_for bench q) ≡ some (cut (load q) q).pieces
   unfolding bench
   bench_pieces q k = frame_pieces bench q k
@@ -150,11 +136,11 @@ module _ (taps : ℕ) where
       let r = sound calls i (with_packet q packet) after left l.1 (put_queue q packet k l.0) h.2 in
       record { carried = r.carried; packets = (l.0, r.packets); taken = ap (λ (ps : List Packet). packet ∷ ps) r.taken; left = r.left }
   sound (call_put packet (Err refusal) left ∷ calls) i q sender queue s k h =
-      let same : left ≡ queue = put_kept queue sender packet refusal left h.1 in
+      let same : left ≡ queue = refusal_keeps (every_call_holds.put queue sender packet) refusal left h.1 in
       let r = sound calls i q sender left (rw same s) k h.2 in
       record { carried = r.carried; packets = r.packets; taken = r.taken; left = r.left }
   sound (call_next fields out (Ok sent) left after ∷ calls) i q sender queue s k h =
-      let l = next_stands taps fields sender queue out sent left after i q h.0 s in
+      let l = next_stands taps fields sender queue out sent.sender sent.kind left after i q h.0 s in
       let stands = subst (λ (c : Cut). Stands left sent.sender (suc i) c.left) (fill_cut q k) l.1 in
       let r = sound calls (suc i) (cut (load q) q).left sent.sender left stands (cut_queue (load q) q k) h.1 in
       record {
@@ -164,7 +150,8 @@ module _ (taps : ℕ) where
         left = r.left;
       }
   sound (call_next fields out (Err refusal) left after ∷ calls) i q sender queue s k h =
-      let same : left ≡ queue = next_kept fields sender queue out refusal left after h.0 in
+      let kept = refusal_keeps (every_call_holds.next_frame taps fields sender queue out) refusal (left, after) h.0 in
+      let same : left ≡ queue = ap (λ (lent : List ℕ × List ℕ). lent.0) kept in
       let r = sound calls i q sender left (rw same s) k h.1 in
       record { carried = r.carried; packets = r.packets; taken = r.taken; left = r.left }
 

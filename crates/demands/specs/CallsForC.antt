@@ -1,7 +1,7 @@
 -- DEMAND 1 of the calls for C (include/taqwelim.h), as `EveryCall` has it of the library's: each answers, in one way, with the number that the library's table
 -- gives, and a refusal gives back the state that was given, zeros elsewhere, and leaves every lent byte. `every_call_for_c_holds` in proofs/CallsForC.antt is
 -- the proof.
-use Rattle.std.specs.Prelude.{◌≡◌, List, ℕ, Err}
+use Rattle.std.specs.Prelude.{List, ℕ, Err}
 use Rattle.header.specs.Calls.{code_table}
 use Rattle.header_reading.specs.Reading.{read_table}
 use Rattle.sender.specs.Put.{put_table}
@@ -18,16 +18,11 @@ use Rattle.flat.specs.States.{receiver_of}
 use Rattle.flat.specs.declared.states.FlatReceiver.{FlatReceiver}
 use Rattle.flat.specs.declared.states.FlatSender.{FlatSender}
 use Rattle.flat.specs.Answers.{flat_put, flat_waiting, flat_next, flat_open, flat_repair, flat_apply, flat_code, flat_read, flat_entry}
-use Rattle.flat.specs.declared.FlatPut.{FlatPut}
 use Rattle.flat.specs.declared.FlatWaiting.{FlatWaiting}
 use Rattle.flat.specs.declared.FlatNext.{FlatNext}
-use Rattle.flat.specs.declared.FlatOpen.{FlatOpen}
-use Rattle.flat.specs.declared.FlatRepair.{FlatRepair}
 use Rattle.flat.specs.declared.FlatApply.{FlatApply}
-use Rattle.flat.specs.declared.FlatCode.{FlatCode}
 use Rattle.flat.specs.declared.FlatRead.{FlatRead}
 use Rattle.flat.specs.declared.FlatEntry.{FlatEntry}
-use Rattle.flat.specs.declared.FlatPacket.{FlatPacket}
 use Rattle.taqwelim.specs.Calls.{FreshSenderCall, PutCall, WaitingCall, NextCall, FreshReceiverCall, OpenCall, RepairCall, ApplyCall, EntryCall}
 use Rattle.taqwelim.specs.Calls.{PacketCall, CodeCall, ReadCall, LevelCall}
 use Rattle.demands.specs.Demand1.{Demand1, RefusesWith, RefusesNothing}

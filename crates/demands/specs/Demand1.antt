@@ -1,7 +1,7 @@
 -- DEMAND 1: every call takes all inputs, ends, and answers or refuses by a number from its table, the lowest that applies; a refusal returns that number
 -- only, and changes no state and no byte of a lent buffer. That a call takes all inputs and ends is shown by its having no `requires` and being proved. Here:
 -- what its contract says. A state is given and returned by value. `every_call_holds` in proofs/Demand1.antt is the proof; CallsForC.antt has the calls for C.
-use Rattle.std.specs.Prelude.{◌≡◌, true, List, [], ◌∷◌, ◌++◌, ℕ, ◌≤◌, ℤ, Option, Result, Err}
+use Rattle.std.specs.Prelude.{◌≡◌, true, List, [], ◌∷◌, ◌++◌, ℕ, ◌≤◌, Result, Err}
 use Rattle.std.specs.Borrow.{Bor}
 use Rattle.refusals.specs.Numbers.{number_of, number_in}
 use Rattle.refusals.specs.Table.{Row, first_of}
