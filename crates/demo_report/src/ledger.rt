@@ -1,5 +1,4 @@
 // A ledger marks blocks by their numbers.
-use std::ops::Range;
 
 // Numbers of blocks are below this one.
 pub const BLOCKS: usize = 64;
@@ -9,12 +8,6 @@ pub const BLOCKS: usize = 64;
 pub struct Blocks {
     pub first: u16,
     pub end: u16,
-}
-
-impl Blocks {
-    pub fn numbers(self) -> Range<u16> {
-        self.first..self.end
-    }
 }
 
 #[derive(Clone, Copy)]
@@ -29,27 +22,30 @@ impl Ledger {
         }
     }
 
-    pub fn mark(&mut self, number: u16) {
+    pub fn with(mut self, number: u16) -> Ledger {
         if let Some(mark) = self.marked.get_mut(number as usize) {
             *mark = true;
         }
+        self
     }
 
-    pub fn mark_all(&mut self, blocks: Blocks) {
-        for number in blocks.numbers() {
-            self.mark(number);
-        }
+    pub fn with_all(self, blocks: Blocks) -> Ledger {
+        (blocks.first..blocks.end).fold(self, Ledger::with)
     }
 }
 
 // Of the blocks that were put, how many came out exactly if no frame with a part of them was lost or refused.
 pub fn as_promised(broken: &Ledger, out: &Ledger, put: u16) -> usize {
     let both = broken.marked.iter().zip(out.marked.iter());
-    both.take(put as usize).filter(|(is_broken, is_out)| is_broken != is_out).count()
+    both.take(put as usize)
+        .filter(|(is_broken, is_out)| is_broken != is_out)
+        .count()
 }
 
 // Of the blocks that were put, how many are marked in both ledgers.
 pub fn in_both(one: &Ledger, other: &Ledger, put: u16) -> usize {
     let both = one.marked.iter().zip(other.marked.iter());
-    both.take(put as usize).filter(|(is_in_one, is_in_other)| **is_in_one && **is_in_other).count()
+    both.take(put as usize)
+        .filter(|(is_in_one, is_in_other)| **is_in_one && **is_in_other)
+        .count()
 }

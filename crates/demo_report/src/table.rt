@@ -41,7 +41,12 @@ pub fn not_put<W: Write>(out: &mut W, block: u16, refusal: Refusal) -> io::Resul
 
 // The blocks that a frame carries a part of.
 pub fn carries<W: Write>(out: &mut W, blocks: Blocks) -> io::Result<()> {
-    range(out, blocks.first as u64, blocks.end.wrapping_sub(1) as u64, 11)
+    range(
+        out,
+        blocks.first as u64,
+        blocks.end.wrapping_sub(1) as u64,
+        11,
+    )
 }
 
 pub fn idle<W: Write>(out: &mut W) -> io::Result<()> {
@@ -94,7 +99,11 @@ pub fn refused<W: Write>(out: &mut W, refusal: Refusal) -> io::Result<()> {
 // A block that came out, told from a column on. Answers the column behind it.
 pub fn out<W: Write>(out: &mut W, column: usize, block: u16) -> io::Result<usize> {
     write!(out, " {block}")?;
-    Ok(column.saturating_add(digits_of(block as u64)).saturating_add(1))
+    Ok(
+        column
+            .saturating_add(digits_of(block as u64))
+            .saturating_add(1),
+    )
 }
 
 // What the recorder keeps and how many gaps it knows of, told behind a column.

@@ -1,7 +1,6 @@
 // What the session came to, in numbers.
-use std::fmt;
-use std::io;
 use std::io::Write;
+use std::{fmt, io};
 
 #[derive(Clone, Copy, Default)]
 pub struct Totals {
@@ -16,20 +15,27 @@ pub struct Totals {
 
 // Counts stay at the largest number, which no session reaches.
 impl Totals {
-    pub fn count_received(&mut self, repaired: u8, missed: u16) {
-        self.received = self.received.saturating_add(1);
-        if 0 < repaired {
-            self.repaired = self.repaired.saturating_add(1);
+    pub fn with_received(self, repaired: u8, missed: u16) -> Totals {
+        Totals {
+            received: self.received.saturating_add(1),
+            repaired: self.repaired.saturating_add(u64::from(0 < repaired)),
+            missed: self.missed.saturating_add(missed as u64),
+            ..self
         }
-        self.missed = self.missed.saturating_add(missed as u64);
     }
 
-    pub fn count_refused(&mut self) {
-        self.refused = self.refused.saturating_add(1);
+    pub fn with_refused(self) -> Totals {
+        Totals {
+            refused: self.refused.saturating_add(1),
+            ..self
+        }
     }
 
-    pub fn count_lost(&mut self) {
-        self.lost = self.lost.saturating_add(1);
+    pub fn with_lost(self) -> Totals {
+        Totals {
+            lost: self.lost.saturating_add(1),
+            ..self
+        }
     }
 }
 

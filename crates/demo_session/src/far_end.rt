@@ -42,8 +42,8 @@ impl FarEnd {
 
     // A frame is lost: the blocks that it carries do not come out.
     fn lose<W: Write>(&mut self, out: &mut W, blocks: Blocks) -> io::Result<()> {
-        self.totals.count_lost();
-        self.broken.mark_all(blocks);
+        self.totals = self.totals.with_lost();
+        self.broken = self.broken.with_all(blocks);
         table::lost(out)
     }
 
@@ -54,8 +54,8 @@ impl FarEnd {
         refusal: Refusal,
         blocks: Blocks,
     ) -> io::Result<()> {
-        self.totals.count_refused();
-        self.broken.mark_all(blocks);
+        self.totals = self.totals.with_refused();
+        self.broken = self.broken.with_all(blocks);
         table::refused(out, refusal)
     }
 
@@ -68,9 +68,9 @@ impl FarEnd {
         blocks: Blocks,
     ) -> io::Result<()> {
         self.receiver = applied.receiver;
-        self.totals.count_received(repaired, applied.missed);
+        self.totals = self.totals.with_received(repaired, applied.missed);
         if 0 < repaired {
-            self.mended.mark_all(blocks);
+            self.mended = self.mended.with_all(blocks);
         }
         table::received(out, repaired, applied.missed, applied.packets)?;
         let listed = demo_report::front(&self.list, applied.listed);

@@ -30,7 +30,7 @@ impl Readers {
         let number = blocks::number_of(packet);
         self.recorder = self.recorder.with(number);
         self.tuner = self.tuner.with(number);
-        self.out.mark(number);
+        self.out = self.out.with(number);
         if blocks::is_block(number, packet) {
             self.unaltered = self.unaltered.saturating_add(1);
         }

@@ -81,7 +81,7 @@ fn write_accepted(
     write_number(out, after_missed, packets as u64, NEWLINE)
 }
 
-// Writes the line of a frame that is refused, by the one call or the other, and gives its length. Any number has its line: a `Refusal` would ask more of callers.
+// Writes the line of a frame that is refused, by the one call or the other, and gives its length. Any number has a line: to take a `Refusal` would ask more.
 pub fn write_refused(out: &mut [u8], place: u64, number: u8) -> usize
     requires { 96 ≤ length out.old }
     ensures value { (result ≡ length (refused_line place number)) × (result ≤ 96) }
