@@ -8,7 +8,7 @@ use native.Mathlib.Omega.{arith}
 use lib.ListN.{length, take, length-take}
 use Rattle.refusals.specs.Table.{first_of}
 use Rattle.lent.specs.Written.{written}
-use Rattle.refusals.proofs.Table.{accepted, refused, kept, numbered, both_passed, first_later}
+use Rattle.refusals.proofs.Table.{accepted, kept, both_passed, first_later}
 use Rattle.lent.proofs.Written.{written_length}
 use Rattle.link.specs.Link.{ArePackets, Piece, Step, held_after}
 use Rattle.link.specs.Store.{layout_packets}
@@ -19,20 +19,25 @@ use Rattle.header.specs.Header.{header_fits}
 use Rattle.header.specs.declared.FrameKind.{FrameKind}
 use Rattle.header.specs.declared.Header.{Header}
 use Rattle.receiver.specs.declared.Receiver.{Receiver}
-use Rattle.receiver.specs.declared.ApplyAnswer.{ApplyAnswer}
-use Rattle.receiver.specs.declared.ApplyAnswer.TheVariants.{Applied, Refused}
+use Rattle.receiver.specs.declared.Applied.{Applied}
+use Rattle.std.specs.Prelude.{Result, Ok, Err}
+use Rattle.refusals.specs.Numbers.{refusal_of, number_in}
+use Rattle.refusals.specs.declared.Refusal.{Refusal}
+use Rattle.refusals.proofs.Numbers.{answered, numbered}
 use Rattle.receiver.specs.Applying.{receiver_then, is_data, pieces_of, missed_count, held_part, joined}
-use Rattle.receiver.specs.Applying.{buffers_table, area_table, opened_table, apply_refusal, ApplyOutcome, apply_number}
+use Rattle.receiver.specs.Applying.{buffers_table, area_table, opened_table, apply_refusal, apply_table, ApplyOutcome}
 use Rattle.receiver.proofs.Tables.{BuffersPassed, buffers_passed, buffers_pass, area_passed, opened_passed, opened_by_area}
 
 -- the answer's number is the refusal's
-pub apply_numbers : {header : Header} {area : List ℕ} {receiver : Receiver} {hold list : List ℕ} {r : ApplyAnswer} {hold' list' : List ℕ}
-    → ApplyOutcome header area receiver hold list r hold' list' → apply_number r ≡ apply_refusal header area receiver hold list
-apply_numbers x = ap apply_number x.answer ∙ numbered apply_number _ (λ n. Refused n) refl (λ n. refl) _
+pub apply_numbers : {header : Header} {area : List ℕ} {receiver : Receiver} {hold list : List ℕ} {r : Result Applied Refusal} {hold' list' : List ℕ}
+    → ApplyOutcome header area receiver hold list r hold' list' → number_in r ≡ apply_refusal header area receiver hold list
+unfolding apply_refusal refusal_of
+apply_numbers {header} {area} {receiver} {hold} {list} x =
+    ap (number_in {A = Applied}) x.answer ∙ numbered (apply_table header area receiver hold list) _ refl
 
 -- ---- what comes of a call, by its number
 
-module _ {header : Header} {area : List ℕ} {receiver : Receiver} {hold list : List ℕ} {r : ApplyAnswer} {hold' list' : List ℕ}
+module _ {header : Header} {area : List ℕ} {receiver : Receiver} {hold list : List ℕ} {r : Result Applied Refusal} {hold' list' : List ℕ}
     (x : ApplyOutcome header area receiver hold list r hold' list') where
   abbrev number : ℕ
   number = apply_refusal header area receiver hold list
@@ -41,9 +46,13 @@ module _ {header : Header} {area : List ℕ} {receiver : Receiver} {hold list : 
   step = joined header area receiver hold
 
   module _ (z : number ≡ 0) where
-    pub accepted_answer : r ≡ Applied (missed_count header receiver) (length step.out) (length (layout_packets step.out))
-        (receiver_then header.txfn (length step.held))
-    accepted_answer = x.answer ∙ sym (accepted number number _ _ _ refl z refl)
+    pub accepted_answer : r ≡ Ok (record {
+      missed = missed_count header receiver;
+      packets = length step.out;
+      listed = length (layout_packets step.out);
+      receiver = receiver_then header.txfn (length step.held);
+    })
+    accepted_answer = x.answer ∙ sym (answered number _ _ z refl)
 
     pub accepted_hold : hold' ≡ written hold 0 step.held
     accepted_hold = x.held ∙ sym (accepted number number _ _ _ refl z refl)
@@ -52,8 +61,8 @@ module _ {header : Header} {area : List ℕ} {receiver : Receiver} {hold list : 
     accepted_list = x.listed ∙ sym (accepted number number _ _ _ refl z refl)
 
   module _ (ne : number ≡ 0 → ⊥) where
-    pub refused_answer : r ≡ Refused number
-    refused_answer = x.answer ∙ sym (refused number number _ (λ n. Refused n) refl ne)
+    pub refused_answer : r ≡ Err (refusal_of number)
+    refused_answer = x.answer ∙ sym (kept number number _ _ refl ne)
 
     pub refused_hold : hold' ≡ hold
     refused_hold = x.held ∙ sym (kept number number _ hold refl ne)
@@ -127,16 +136,15 @@ pub record ApplyLeaves (header : Header) (area : List ℕ) (receiver : Receiver)
   pub long : length hold' ≡ 9000
 
 pub apply_own : (header : Header) (area : List ℕ) (receiver : Receiver) (hold list : List ℕ)
-    (missed packets listed : ℕ) (after : Receiver) (hold' list' : List ℕ)
-    → ApplyOutcome header area receiver hold list (Applied missed packets listed after) hold' list'
-    → ApplyLeaves header area receiver hold after hold'
-apply_own header area receiver hold list missed packets listed after hold' list' x =
+    (applied : Applied) (hold' list' : List ℕ)
+    → ApplyOutcome header area receiver hold list (Ok applied) hold' list'
+    → ApplyLeaves header area receiver hold applied.receiver hold'
+apply_own header area receiver hold list applied hold' list' x =
     let z : apply_refusal header area receiver hold list ≡ 0 = sym (apply_numbers x) in
     let p = apply_passed header area receiver hold list z in
     let well = joined_well header area receiver hold p.buffers.most p.read in
     let part = (joined header area receiver hold).held in
-    let answered = accepted_answer x z in
-    let same : after ≡ receiver_then header.txfn (length part) = cc in
+    let same : applied.receiver ≡ receiver_then header.txfn (length part) = cc (accepted_answer x z) in
     record {
       well = well;
       most = rw same well.held;

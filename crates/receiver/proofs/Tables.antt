@@ -1,6 +1,6 @@
 -- The rows 2 and 3, and 11, 14 and 15: what is known where none of them applies, and the number of 14 and 15 by what was read of the area.
-use mathlib.Core.Path.{◌≡◌, refl, sym, ap, ◌∙◌}
-use mathlib.Core.Bool.{Bool, true, false, not, cond, ◌&&◌, false≢true}
+use mathlib.Core.Path.{◌≡◌, refl}
+use mathlib.Core.Bool.{Bool, true, false, not, cond, ◌&&◌}
 use mathlib.Core.Option.{Option, none, some}
 use mathlib.Core.List.{List, []}
 use Prim.Native.Nat.{ℕ, ◌≤◌}
@@ -13,9 +13,11 @@ use Rattle.basics.proofs.Tests.{left_true, right_true}
 use Rattle.refusals.specs.Table.{◌when◌, first_of}
 use Rattle.refusals.proofs.Table.{row_passed, unless_passed}
 use Rattle.link.specs.Link.{Piece, fits}
-use Rattle.basics.specs.Lists.{is_some}
 use Rattle.packing.specs.Records.{read}
 use Rattle.header.specs.Header.{header_fits}
+use denote.Enum.Bare.{sameb}
+use Rattle.header.specs.contracts.FrameKind.{the_type}
+use Rattle.header.specs.declared.FrameKind.TheVariants.{Idle, Data, Type2, Type3}
 use Rattle.header.specs.declared.FrameKind.{FrameKind}
 use Rattle.header.specs.declared.Header.{Header}
 use Rattle.receiver.specs.Applying.{is_data, pieces_of, buffers_table, area_table, opened_table}
@@ -74,30 +76,19 @@ area_passed held none e = absurd (omega arith)
 area_passed held (some pieces) e =
     record { pieces = pieces; are = refl; fitting = (unless_passed 15 (fits held pieces) [] (omega arith) e).0 }
 
+-- as the code tests it
+pub data_tested : (kind : FrameKind) → is_data kind ≡ sameb the_type kind Data
+data_tested Idle = refl
+data_tested Data = refl
+data_tested Type2 = refl
+data_tested Type3 = refl
+
 -- the records of a DATA area, and of another
 pub data_records : (kind : FrameKind) (area : List ℕ) → is_data kind ≡ true → pieces_of kind area ≡ read area
 data_records kind area e = rw e
 
 pub other_records : (kind : FrameKind) (area : List ℕ) → is_data kind ≡ false → pieces_of kind area ≡ some []
 other_records kind area e = rw e
-
--- the number, by the tests that the code makes
-module _ (kind : FrameKind) (area held : List ℕ) where
-  pub not_looked_into : is_data kind ≡ false → 0 ≡ first_of (area_table held (pieces_of kind area))
-  not_looked_into d = rw (other_records kind area d) (sym (read_as held []))
-
-  module _ (d : is_data kind ≡ true) where
-    pub against_rules : is_some (read area) ≡ false → 14 ≡ first_of (area_table held (pieces_of kind area))
-    unfolding first_of
-    against_rules e = rw (d, e)
-
-    pub by_fit : (fit : Bool) → is_some (read area) ≡ true → ((pieces : List Piece) → read area ≡ some pieces → fit ≡ fits held pieces)
-        → cond fit 0 15 ≡ first_of (area_table held (pieces_of kind area))
-    by_fit fit e fitting = rw (data_records kind area d) (go (read area) refl e)
-      where
-        go : (records : Option (List Piece)) → read area ≡ records → is_some records ≡ true → cond fit 0 15 ≡ first_of (area_table held records)
-        go none are e = absurd (false≢true e)
-        go (some pieces) are e = ap (λ (test : Bool). cond test 0 15) (fitting pieces are) ∙ sym (read_as held pieces)
 
 -- ---- 11, before them
 

@@ -1,5 +1,5 @@
 // The receiver: packets come out of opened frames whole and in their turn, or not at all, and the frames missed are counted (01, "Receiving").
-#![tactic(auto)]
+#![tactic(auto, unfolding(refusals::specs::Table::first_of, refusals::specs::Table::by, refusals::specs::Numbers::refusal_of))]
 
 ghost use Rattle.std.specs.Prelude.{◌≡◌, cond, eqb};
 ghost use Rattle.refusals.specs.Numbers.{judged_by};
@@ -70,7 +70,6 @@ fn are_sized(area: &[u8], hold: &[u8], list: &[u8]) -> bool
 }
 
 // Refusals: 2, 3.
-#[tactic(auto, unfolding(refusals::specs::Table::first_of, refusals::specs::Table::by, refusals::specs::Numbers::refusal_of))]
 fn judge_buffers(area: &[u8], held: usize, hold: &[u8], list: &[u8]) -> Result<(), Refusal>
     ensures { result ≡ judged_by (first_of (buffers_table area.now held hold.now list.now)) }
 {
@@ -87,7 +86,7 @@ fn judge_buffers(area: &[u8], held: usize, hold: &[u8], list: &[u8]) -> Result<(
 fn judge_area(kind: FrameKind, area: &[u8], held: &[u8]) -> Result<(), Refusal>
     ensures { result ≡ judged_by (first_of (area_table held.now (pieces_of kind area.now))) }
 {
-    if !matches!(kind, FrameKind::Data) {
+    if kind != FrameKind::Data {
         return Ok(());
     }
     if !packing::is_allowed(area) {
@@ -124,20 +123,22 @@ pub fn apply(
     let missed = missed_before(receiver.expected, header.txfn);
     let held = held_after(missed, receiver.held);
     judge_opened(header, area, &hold[..held])?;
-    let joined = match header.kind {
-        FrameKind::Data => joining::join(area, held, hold, list),
-        _ => Joined {
+    let joined = if header.kind == FrameKind::Data {
+        joining::join(area, held, hold, list)
+    } else {
+        Joined {
             held,
             packets: 0,
             listed: 0,
-        },
+        }
     };
+    let next = header.txfn.next();
     Ok(Applied {
         missed,
         packets: joined.packets,
         listed: joined.listed,
         receiver: Receiver {
-            expected: Some(header.txfn.next()),
+            expected: Some(next),
             held: joined.held,
         },
     })

@@ -1,65 +1,35 @@
--- A refusal by either table keeps hold and list; the numbers are the table's (`buffers_first`, `judged`). Else a DATA area is joined (`data_done`),
--- and of another kind only the count is told (`other_done`).
-use mathlib.Core.Path.{sym, ◌∙◌}
-use Rattle.refusals.proofs.Table.{refused, kept}
-use Rattle.receiver.specs.declared.ApplyAnswer.TheVariants.{Refused}
-use Rattle.receiver.proofs.Applying.{buffers_first, held_inside, held_length, judged, join_ready, data_done, other_done}
+-- A refusal by either table keeps hold and list; it is the whole table's (`buffers_first`, `judged`). Else a DATA area is joined (`data_done`), and of another kind
+-- only the count is told (`other_done`).
+use Rattle.std.proofs.Common.{◌≡◌, Err, rules, sym, ◌∙◌}
+use Rattle.refusals.proofs.Numbers.{passed, refused, kept}
+use Rattle.receiver.proofs.Applying.{buffers_first, judged, data_done, other_done}
+use Rattle.receiver.proofs.Tables.{data_tested}
 use Rattle.receiver.proofs.apply.Goals as goal
+use Rattle.receiver.proofs.apply.Goals.{then-eq, else-eq}
 
-pub returns-then-buffers-ne0 : goal.returns-then-buffers-ne0
-returns-then-buffers-ne0 c =
-    let applies = c.if-buffers-ne0.true in
-    let e =
-    buffers_first c.args.header c.args.area.now c.args.receiver c.args.hold.now c.args.list.now _ c.buffers_refusal-buffers.ensures applies in
-    record {
-      answer = refused _ _ _ (λ n. Refused n) e applies;
-      held = kept _ _ _ _ e applies;
-      listed = kept _ _ _ _ e applies;
-    }
+pub returns-in_err-judge_buffers : goal.returns-in_err-judge_buffers
+returns-in_err-judge_buffers c =
+    let e = buffers_first c.args.header c.args.area.now c.args.receiver c.args.hold.now c.args.list.now (sym c.in_err-judge_buffers.was ∙ c.judge_buffers.ensures) in
+    let same : c.from_residual.result ≡ Err c.in_err-judge_buffers.field-0.0 = search rules in
+    record { answer = same ∙ refused _ _ _ _ e; held = kept _ _ _ _ _ e; listed = kept _ _ _ _ _ e }
 
-pub slice_bounds-opened_refusal-end : goal.slice_bounds-opened_refusal-end
-slice_bounds-opened_refusal-end c =
-    held_inside c.args.area.now c.args.receiver c.args.hold.now c.args.list.now _ _
-    (sym c.buffers_refusal-buffers.ensures ∙ c.if-buffers-ne0.false) c.held_after-held.ensures
-
-pub slice_bounds-opened_refusal-end-2 : goal.slice_bounds-opened_refusal-end-2
-slice_bounds-opened_refusal-end-2 c =
-    held_length c.args.area.now c.args.receiver c.args.hold.now c.args.list.now _ _
-    (sym c.buffers_refusal-buffers.ensures ∙ c.if-buffers-ne0.false) c.held_after-held.ensures
-
-pub returns-then-number-ne0 : goal.returns-then-number-ne0
-returns-then-number-ne0 c =
+pub returns-in_err-judge_opened : goal.returns-in_err-judge_opened
+returns-in_err-judge_opened c =
     let k =
-    judged c.args.header c.args.area.now c.args.receiver c.args.hold.now c.args.list.now
-    (sym c.buffers_refusal-buffers.ensures ∙ c.if-buffers-ne0.false) c.missed_before-missed.ensures c.held_after-held.ensures
-    c.opened_refusal-number.ensures in
-    let applies = c.if-number-ne0.true in
-    record {
-      answer = refused _ _ _ (λ n. Refused n) k.refusal applies;
-      held = kept _ _ _ _ k.refusal applies;
-      listed = kept _ _ _ _ k.refusal applies;
-    }
-
-pub join-joined-requires : goal.join-joined-requires
-join-joined-requires c =
-    let k =
-    judged c.args.header c.args.area.now c.args.receiver c.args.hold.now c.args.list.now
-    (sym c.buffers_refusal-buffers.ensures ∙ c.if-buffers-ne0.false) c.missed_before-missed.ensures c.held_after-held.ensures
-    c.opened_refusal-number.ensures in
-    join_ready k c.if-number-ne0.false (sym c.is_data.ensures ∙ c.if-is_data.true)
-
-pub returns-then-is_data : goal.returns-then-is_data
-returns-then-is_data c =
-    let k =
-    judged c.args.header c.args.area.now c.args.receiver c.args.hold.now c.args.list.now
-    (sym c.buffers_refusal-buffers.ensures ∙ c.if-buffers-ne0.false) c.missed_before-missed.ensures c.held_after-held.ensures
-    c.opened_refusal-number.ensures in
-    data_done k c.if-number-ne0.false (sym c.is_data.ensures ∙ c.if-is_data.true) c.applied.ensures c.join-joined.ensures
+    judged c.args.header c.args.area.now c.args.receiver c.args.hold.now c.args.list.now (sym c.in_ok-judge_buffers.was ∙ c.judge_buffers.ensures) c.missed_before-missed.ensures c.held_after-held.ensures in
+    let e = rw k.refusal at (sym c.in_err-judge_opened.was ∙ c.judge_opened.ensures) in
+    let same : c.from_residual-in_err-judge_opened.result ≡ Err c.in_err-judge_opened.field-0.0 = search rules in
+    record { answer = same ∙ refused _ _ _ _ e; held = kept _ _ _ _ _ e; listed = kept _ _ _ _ _ e }
 
 pub returns : goal.returns
 returns c =
     let k =
-    judged c.args.header c.args.area.now c.args.receiver c.args.hold.now c.args.list.now
-    (sym c.buffers_refusal-buffers.ensures ∙ c.if-buffers-ne0.false) c.missed_before-missed.ensures c.held_after-held.ensures
-    c.opened_refusal-number.ensures in
-    other_done k c.if-number-ne0.false (sym c.is_data.ensures ∙ c.if-is_data.false) c.applied-2.ensures
+    judged c.args.header c.args.area.now c.args.receiver c.args.hold.now c.args.list.now (sym c.in_ok-judge_buffers.was ∙ c.judge_buffers.ensures) c.missed_before-missed.ensures c.held_after-held.ensures in
+    let z = passed _ _ _ (sym c.in_ok-judge_opened.was ∙ c.judge_opened.ensures) in
+    let tested = data_tested c.args.header.kind ∙ sym c.eq.ensures in
+    elim c.if-eq.branch [
+      | then-eq w ↦
+          rw (w.joined-is, w.hold-is, w.list-is) (data_done k z c.next-next.ensures (tested ∙ w.if-eq.true) w.join-joined.ensures)
+      | else-eq w ↦
+          rw (w.joined-is, w.hold-is, w.list-is) (other_done k z c.next-next.ensures (tested ∙ w.if-eq.false))
+    ]
