@@ -2,9 +2,8 @@
 // And the level that a code stands for.
 #![tactic(auto)]
 
-ghost use Rattle.std.specs.Prelude.{◌≡◌, ◌&&◌, ◌+◌, ◌*◌, ◌%◌, ◌≤◌, leb};
-ghost use Rattle.basics.specs.Numbers.{fits_bits};
-ghost use Rattle.fast_channel.specs.FastChannel.{lock_number, with_lock, lock_of, opcode_of, payload_of, message_fits, message_of, payload_rule};
+ghost use Rattle.std.specs.Prelude.{◌≡◌, ◌≤◌};
+ghost use Rattle.fast_channel.specs.FastChannel.{lock_number, lock_of, opcode_of, payload_of, message_fits, message_of, payload_rule};
 ghost use Rattle.fast_channel.specs.Level.{LevelOutcome};
 
 // Frame synchronization over the time that a message reports on: lost at least once, or held.
@@ -76,17 +75,33 @@ impl FastChannel {
         }
     }
 
+    // The numbers from the top bit down. One that is too large for its bits is cut off, and is refused before it is sent.
     pub fn payload(self) -> u16
         ensures { result ≡ payload_of self }
     {
         match self {
-            FastChannel::CrcErrors(errors) => errors,
-            FastChannel::ReceivedPower { power, lock } => with_lock(power, lock),
-            FastChannel::PowerStatistics { mean, deviation } => byte_pair(mean, deviation),
-            FastChannel::SyncLosses { losses, lock } => with_lock(losses, lock),
-            FastChannel::PowerRange { least, greatest } => byte_pair(least, greatest),
-            FastChannel::Version { major, minor, patch } => version_number(major, minor, patch),
-            FastChannel::CorrectedFrames(frames) => frames,
+            FastChannel::CrcErrors(frames) | FastChannel::CorrectedFrames(frames) => frames,
+            FastChannel::ReceivedPower {
+                power: number,
+                lock,
+            }
+            | FastChannel::SyncLosses {
+                losses: number,
+                lock,
+            } => 4 * (number % 16384) + u16::from(lock),
+            FastChannel::PowerStatistics {
+                mean: first,
+                deviation: second,
+            }
+            | FastChannel::PowerRange {
+                least: first,
+                greatest: second,
+            } => u16::from_be_bytes([first, second]),
+            FastChannel::Version {
+                major,
+                minor,
+                patch,
+            } => 2048 * u16::from(major % 32) + 64 * u16::from(minor % 32) + u16::from(patch % 64),
             FastChannel::Reserved(_) => 0,
             FastChannel::Absent => 65535,
         }
@@ -97,9 +112,14 @@ impl FastChannel {
         ensures { result ≡ message_fits self }
     {
         match self {
-            FastChannel::ReceivedPower { power: number, .. } | FastChannel::SyncLosses { losses: number, .. } => number < 16384,
-            FastChannel::Version { major, minor, patch } => major < 32 && minor < 32 && patch < 64,
-            FastChannel::Reserved(opcode) => 7 <= opcode && opcode <= 14,
+            FastChannel::ReceivedPower { power: number, .. }
+            | FastChannel::SyncLosses { losses: number, .. } => number < 16384,
+            FastChannel::Version {
+                major,
+                minor,
+                patch,
+            } => major < 32 && minor < 32 && patch < 64,
+            FastChannel::Reserved(opcode) => matches!(opcode, 7..=14),
             _ => true,
         }
     }
@@ -115,18 +135,18 @@ impl FastChannel {
                 power: payload / 4,
                 lock: Lock::from(payload % 4),
             },
-            2 => FastChannel::PowerStatistics {
-                mean: (payload / 256) as u8,
-                deviation: (payload % 256) as u8,
-            },
+            2 => {
+                let [mean, deviation] = payload.to_be_bytes();
+                FastChannel::PowerStatistics { mean, deviation }
+            }
             3 => FastChannel::SyncLosses {
                 losses: payload / 4,
                 lock: Lock::from(payload % 4),
             },
-            4 => FastChannel::PowerRange {
-                least: (payload / 256) as u8,
-                greatest: (payload % 256) as u8,
-            },
+            4 => {
+                let [least, greatest] = payload.to_be_bytes();
+                FastChannel::PowerRange { least, greatest }
+            }
             5 => FastChannel::Version {
                 major: (payload / 2048) as u8,
                 minor: (payload / 64 % 32) as u8,
@@ -150,25 +170,6 @@ impl FastChannel {
             _ => payload == 0,
         }
     }
-}
-
-// 14 bits, then the lock.
-fn with_lock(number: u16, lock: Lock) -> u16
-    ensures { result ≡ with_lock number lock }
-{
-    4 * (number % 16384) + u16::from(lock)
-}
-
-fn byte_pair(first: u8, second: u8) -> u16
-    ensures { result ≡ 256 * first + second }
-{
-    u16::from_be_bytes([first, second])
-}
-
-fn version_number(major: u8, minor: u8, patch: u8) -> u16
-    ensures { result ≡ 2048 * (major % 32) + 64 * (minor % 32) + patch % 64 }
-{
-    2048 * (major as u16 % 32) + 64 * (minor as u16 % 32) + (patch as u16 % 64)
 }
 
 // The level that a code stands for, in hundred-thousandths of a dBm/m².
