@@ -1,56 +1,43 @@
 // How many results were compared, and how many of them differ.
 ghost use Rattle.std.specs.Prelude.{◌≡◌, ◌<◌, ◌≤◌, false};
 
-use printing::more;
+use std::fmt;
 use std::io;
 use std::io::Write;
 
-#[derive(Clone, Copy)]
+#[derive(Clone, Copy, Default)]
 pub struct Count {
     pub compared: u64,
     pub different: u64,
 }
 
-impl Count {
-    pub fn none() -> Count {
-        Count {
-            compared: 0,
-            different: 0,
-        }
+impl fmt::Display for Count {
+    fn fmt<W: fmt::Write>(&self, f: &mut fmt::Formatter<W>) -> fmt::Result {
+        write!(f, "{} compared, {} different", self.compared, self.different)
     }
+}
 
+impl Count {
     // With one result more. The count of differences never falls, and a result that differs is in it.
     pub fn with(self, same: bool) -> Count
         ensures { (self.different ≤ result.different) × (same ≡ false → 0 < result.different) }
     {
-        if same {
-            Count {
-                compared: more(self.compared),
-                different: self.different,
-            }
-        } else {
-            Count {
-                compared: more(self.compared),
-                different: more(self.different),
-            }
+        Count {
+            compared: self.compared.saturating_add(1),
+            different: self.different.saturating_add(u64::from(!same)),
         }
     }
 
-    // A number that was found, beside the one that is published.
+    // A number that was found, beside the one that is published, in so many digits.
     pub fn with_number<W: Write>(
         self,
         out: &mut W,
-        name: &[u8],
+        name: &str,
         found: u64,
         published: u64,
         digits: usize,
     ) -> io::Result<Count> {
-        printing::say(out, name)?;
-        printing::say(out, b" is ")?;
-        printing::hex(out, found, digits)?;
-        printing::say(out, b", published ")?;
-        printing::hex(out, published, digits)?;
-        printing::say(out, b"\n")?;
+        writeln!(out, "{name} is {found:0digits$x}, published {published:0digits$x}")?;
         Ok(self.with(found == published))
     }
 
@@ -58,34 +45,12 @@ impl Count {
     pub fn with_bytes<W: Write>(
         self,
         out: &mut W,
-        name: &[u8],
+        name: &str,
         found: &[u8],
         published: &[u8],
     ) -> io::Result<Count> {
         let same = found == published;
-        printing::say(out, name)?;
-        if same {
-            printing::say(out, b" as published\n")?;
-        } else {
-            printing::say(out, b" NOT as published\n")?;
-        }
+        writeln!(out, "{name} {}as published", if same { "" } else { "NOT " })?;
         Ok(self.with(same))
-    }
-
-    // A line of the table.
-    pub fn print_row<W: Write>(self, out: &mut W, name: &[u8]) -> io::Result<()> {
-        printing::number(out, self.compared)?;
-        printing::say(out, b" ")?;
-        printing::number(out, self.different)?;
-        printing::say(out, b" ")?;
-        printing::say(out, name)?;
-        printing::say(out, b"\n")
-    }
-
-    pub fn print<W: Write>(self, out: &mut W) -> io::Result<()> {
-        printing::number(out, self.compared)?;
-        printing::say(out, b" compared, ")?;
-        printing::number(out, self.different)?;
-        printing::say(out, b" different")
     }
 }

@@ -1,43 +1,51 @@
 // The input: the number of records in four bytes; then each record as its kind, one byte, the length of its body, two
-// bytes, and the body.
-use crate::numbers;
+// bytes, and the body. Numbers have their highest byte first.
+use outcome::Malformed;
 use std::io::Read;
 
-// What the next record begins with.
-#[derive(Clone, Copy)]
-pub enum Head {
-    Record { kind: u8, length: usize },
-    // The input ends before it does.
-    Short,
+// A record with its body, which stands in bytes that were lent for it.
+#[derive(Drop)]
+pub struct Record<'a> {
+    pub kind: u8,
+    pub body: &'a mut [u8],
 }
 
-// Reads until all the bytes lent are written, and answers whether the input had so many. One that cannot be read ends there.
-pub fn is_read<R: Read>(input: &mut R, bytes: &mut [u8]) -> bool {
-    input.read_exact(bytes).is_ok()
+// The next bytes of the input, where it has so many. One that cannot be read ends there.
+fn read<R: Read, const N: usize>(input: &mut R) -> Option<[u8; N]> {
+    let mut bytes = [0u8; N];
+    input.read_exact(&mut bytes).ok()?;
+    Some(bytes)
 }
 
-pub fn read_head<R: Read>(input: &mut R) -> Head {
-    let mut bytes = [0u8; 3];
-    if !is_read(input, &mut bytes) {
-        return Head::Short;
-    }
-    Head::Record {
-        kind: bytes[0],
-        length: numbers::two_at(&bytes, 1) as usize,
-    }
+// The next record, unless the input ends before it does. There is room for every body.
+pub fn next<'a, R: Read>(input: &mut R, room: &'a mut [u8; 65536]) -> Option<Record<'a>> {
+    let [kind, high, low] = read::<R, 3>(input)?;
+    let body = &mut room[..usize::from(u16::from_be_bytes([high, low]))];
+    input.read_exact(body).ok()?;
+    Some(Record { kind, body })
 }
 
 // The number of records that the input announces. Where it is too short to say so: 1, a record that is then missing.
-pub fn read_count<R: Read>(input: &mut R) -> u64 {
-    let mut bytes = [0u8; 4];
-    if !is_read(input, &mut bytes) {
-        return 1;
+pub fn announced<R: Read>(input: &mut R) -> u32 {
+    match read(input) {
+        Some(bytes) => u32::from_be_bytes(bytes),
+        None => 1,
     }
-    numbers::four_at(&bytes, 0) as u64
 }
 
 // Whether nothing is left of the input.
 pub fn is_at_end<R: Read>(input: &mut R) -> bool {
-    let mut byte = [0u8; 1];
-    !is_read(input, &mut byte)
+    read::<R, 1>(input).is_none()
+}
+
+// The first bytes of a body or of a part of one, and what stands behind them.
+pub fn front<const N: usize>(body: &[u8]) -> Result<([u8; N], &[u8]), Malformed> {
+    let (first, rest) = body.split_first_chunk().ok_or(Malformed)?;
+    Ok((*first, rest))
+}
+
+// A length in the first two bytes, and what stands behind it.
+pub fn length(body: &[u8]) -> Result<(usize, &[u8]), Malformed> {
+    let (length, rest) = front(body)?;
+    Ok((usize::from(u16::from_be_bytes(length)), rest))
 }

@@ -2,17 +2,15 @@
 // A byte is bits 15 to 8 of the next number.
 
 fn next(number: u32) -> u32 {
-    let first = number ^ number % 524288 * 8192;
-    let second = first ^ first / 131072;
-    second ^ second % 134217728 * 32
+    let first = number ^ number << 13;
+    let second = first ^ first >> 17;
+    second ^ second << 5
 }
 
 pub fn fill(seed: u32, bytes: &mut [u8]) {
     let mut number = seed;
-    let mut i: usize = 0;
-    while i < bytes.len() {
+    for byte in bytes.iter_mut() {
         number = next(number);
-        bytes[i] = (number / 256 % 256) as u8;
-        i += 1;
+        *byte = number.to_be_bytes()[2];
     }
 }
