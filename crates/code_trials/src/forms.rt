@@ -1,66 +1,69 @@
 // The two forms of the code of a word, of the code of a payload and of the scrambler: the quick one, which the link uses, and the plain one beside it.
-ghost use Rattle.std.specs.Prelude.{◌≡◌, ◌≤◌, length};
+ghost use Rattle.std.specs.Prelude.{◌≤◌, length};
 
 use reed_solomon::interleaving;
 
-#[derive(Clone, Copy)]
-pub enum Form {
-    Quick,
-    Plain,
+pub trait Form {
+    fn parity_of(data: &[u8]) -> [u8; 16];
+
+    fn is_codeword(word: &[u8]) -> bool
+        requires { 16 ≤ length word.now };
+
+    fn write_parity(payload: &mut [u8; 2040]);
+
+    fn are_codewords(payload: &[u8]) -> bool;
+
+    fn scramble(taps: u32, bytes: &mut [u8]);
 }
 
-pub fn parity_of(form: Form, data: &[u8]) -> [u8; 16] {
-    match form {
-        Form::Quick => reed_solomon::parity_of(data),
-        Form::Plain => plain_reed_solomon::parity_of(data),
-    }
-}
+pub struct Quick;
 
-pub fn is_codeword(form: Form, word: &[u8]) -> bool
-    requires { 16 ≤ length word.now }
-{
-    match form {
-        Form::Quick => leaves_nothing(word),
-        Form::Plain => plain_reed_solomon::is_codeword(word),
-    }
-}
+pub struct Plain;
 
 // The quick form answers with what division leaves.
-fn leaves_nothing(word: &[u8]) -> bool
-    requires { 16 ≤ length word.now }
-{
-    if 255 < word.len() {
-        return false;
+impl Form for Quick {
+    fn parity_of(data: &[u8]) -> [u8; 16] {
+        reed_solomon::parity_of(data)
     }
-    lent::are_same(&reed_solomon::remainder_of(word), &[0u8; 16])
+
+    fn is_codeword(word: &[u8]) -> bool {
+        word.len() <= 255 && reed_solomon::remainder_of(word) == [0; 16]
+    }
+
+    fn write_parity(payload: &mut [u8; 2040]) {
+        interleaving::write_parity(payload);
+    }
+
+    fn are_codewords(payload: &[u8]) -> bool {
+        match <&[u8; 2040]>::try_from(payload) {
+            Ok(payload) => interleaving::remainders(payload) == [0; 128],
+            Err(_) => false,
+        }
+    }
+
+    fn scramble(taps: u32, bytes: &mut [u8]) {
+        scrambler::scramble(taps, bytes);
+    }
 }
 
-pub fn write_parity(form: Form, payload: &mut [u8])
-    requires { length payload.old ≡ 2040 }
-{
-    match form {
-        Form::Quick => interleaving::write_parity(payload),
-        Form::Plain => plain_reed_solomon::write_parity(payload),
+impl Form for Plain {
+    fn parity_of(data: &[u8]) -> [u8; 16] {
+        plain_reed_solomon::parity_of(data)
     }
-}
 
-pub fn are_codewords(form: Form, payload: &[u8]) -> bool {
-    match form {
-        Form::Quick => all_leave_nothing(payload),
-        Form::Plain => plain_reed_solomon::are_codewords(payload),
+    fn is_codeword(word: &[u8]) -> bool {
+        plain_reed_solomon::is_codeword(word)
     }
-}
 
-fn all_leave_nothing(payload: &[u8]) -> bool {
-    if payload.len() != 2040 {
-        return false;
+    fn write_parity(payload: &mut [u8; 2040]) {
+        plain_reed_solomon::write_parity(payload);
     }
-    lent::are_same(&interleaving::remainders(payload), &[0u8; 128])
-}
 
-pub fn scramble(form: Form, taps: u32, bytes: &mut [u8]) {
-    match form {
-        Form::Quick => scrambler::scramble(taps, bytes),
-        Form::Plain => plain_scrambler::scramble(taps, bytes),
+    fn are_codewords(payload: &[u8]) -> bool {
+        plain_reed_solomon::are_codewords(payload)
+    }
+
+    fn scramble(taps: u32, bytes: &mut [u8]) {
+        plain_scrambler::scramble(taps, bytes);
     }
 }

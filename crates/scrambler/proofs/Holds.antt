@@ -7,14 +7,14 @@ use native.Mathlib.Nat.{not-suc-le-zero, zero-add, one-mul, lt_of_lt_of_le, mul-
 use native.Mathlib.Omega.{arith}
 use lib.Arith.{digits_lt}
 use lib.ListN.{length, get_or, set, take, drop, length-drop, get_or-append}
-use lib.Seq.{get_or-set_other, get_or-take, length-take-le}
+use lib.Seq.{get_or-set_other, get_or-take, get_or-drop, length-take-le}
 use Rattle.std.proofs.lemmas.List.{get_or-append_right}
 use borrow.Rule.Slice.PartMut.{mid_of, post_of, put_mid, same_len_mid}
 use Rattle.basics.proofs.Fill.{stored_more}
 use Rattle.scrambler.specs.Scrambler.{key_byte}
 use Rattle.scrambler.specs.Keys.{key_number, places_from, AllBelow, sum_at, FollowsBy, Sums, Holds, Extends, pair_of, Paired, Moved}
 use Rattle.basics.proofs.Tests.{lt_or_ge}
-use Rattle.scrambler.proofs.Places.{sum_same, follows_at, follows_by_two}
+use Rattle.scrambler.proofs.Places.{place_room, sum_same, follows_at, follows_by_two}
 use Rattle.scrambler.proofs.Follows.{level, level_follows, words_from, words_squared, level_join, key_number_lt}
 
 -- ---- one number more
@@ -64,28 +64,39 @@ holds_put {v} {l} sums at k h room long new =
 
 pub record Extending (n : ℕ) (places before : List ℕ) (i : ℕ) (numbers : List ℕ) : Type 0 where
   pub long : length numbers ≡ 100
-  pub so_far : (v : ℕ → ℕ) → FollowsBy n places v → Holds v (25 * n) before → Holds v (n * (25 + i)) numbers
+  pub so_far : (v : ℕ → ℕ) → FollowsBy n places v → Holds v (25 * n) before → Holds v (n * (i + 25)) numbers
 
 pub extending_start : {n : ℕ} {places numbers : List ℕ} → length numbers ≡ 100 → Extending n places numbers 0 numbers
 extending_start {n} long = record { long = long; so_far = λ v f h. holds_less (omega arith) h }
 
 module _ {n i : ℕ} {places before numbers : List ℕ} (s : Extending n places before i numbers) where
-  pub extending_turn : {sums : List ℕ} (k : ℕ) → k ≡ n → AllBelow 25 places → 50 * n ≤ 100 → i < 25
-      → length sums ≡ length (mid_of (n * (25 + i)) k numbers) → Sums n places numbers (n * i) sums
-      → Extending n places before (i + 1) (put_mid (n * (25 + i)) k numbers sums)
-  extending_turn {sums} k same b room hi len e =
+  -- sums of a part of the list are sums of the list
+  part_sum : {sums : List ℕ} (w j : ℕ) → w ≡ 25 * n → AllBelow 25 places → Sums n places (take w (drop (n * i) numbers)) sums → j < n
+      → get_or sums j 0 ≡ sum_at places (λ p. get_or numbers (n * i + j + n * p) 0)
+  part_sum w j same b e hj =
+      let part = take w (drop (n * i) numbers) in
+      e.at j hj
+      ∙ sum_same 25 places (λ p. get_or part (j + n * p) 0) (λ p. get_or numbers (n * i + j + n * p) 0) b
+      (λ p hp.
+      let inside : j + n * p < w = omega (arith, place_room n p hp) in
+      let there : n * i + (j + n * p) ≡ n * i + j + n * p = omega arith in
+      get_or-take w (drop (n * i) numbers) (j + n * p) 0 inside ∙ get_or-drop (n * i) numbers (j + n * p) 0 ∙ ap (λ q. get_or numbers q 0) there)
+
+  pub extending_turn : {sums : List ℕ} (k w : ℕ) → k ≡ n → w ≡ 25 * n → AllBelow 25 places → 50 * n ≤ 100 → i < 25
+      → length sums ≡ length (mid_of (n * (i + 25)) k numbers) → Sums n places (take w (drop (n * i) numbers)) sums
+      → Extending n places before (i + 1) (put_mid (n * (i + 25)) k numbers sums)
+  extending_turn {sums} k w same wide b room hi len e =
       let more : n * (i + 1) ≤ n * 25 = mul-le-mul_left n (omega arith) in
-      let inside : n * (25 + i) + k ≤ length numbers = omega (arith, s.long) in
-      let size : length sums ≡ k = len ∙ length-take-le k (drop (n * (25 + i)) numbers) (omega (arith, length-drop (n * (25 + i)) numbers)) in
+      let inside : n * (i + 25) + k ≤ length numbers = omega (arith, s.long) in
+      let size : length sums ≡ k = len ∙ length-take-le k (drop (n * (i + 25)) numbers) (omega (arith, length-drop (n * (i + 25)) numbers)) in
       record {
-        long = same_len_mid (n * (25 + i)) k numbers sums len ∙ s.long;
+        long = same_len_mid (n * (i + 25)) k numbers sums len ∙ s.long;
         so_far = λ v f start.
             let there = s.so_far v f start in
-            let all = holds_put sums (n * (25 + i)) k there inside size (λ j hj.
-            let at : n * i + j + 25 * n ≡ n * (25 + i) + j = omega arith in
-            sum_is places numbers v (λ p. n * i + j + n * p) (n * (25 + i)) (n * i + j + 25 * n) (get_or sums j 0) b there
-            (λ p hp. let low : n * (p + 1) ≤ n * 25 = mul-le-mul_left n (omega arith) in omega arith)
-            (f (n * i + j)) (e.at j (omega arith)) ∙ ap v at) in
+            let all = holds_put sums (n * (i + 25)) k there inside size (λ j hj.
+            let at : n * i + j + 25 * n ≡ n * (i + 25) + j = omega arith in
+            sum_is places numbers v (λ p. n * i + j + n * p) (n * (i + 25)) (n * i + j + 25 * n) (get_or sums j 0) b there
+            (λ p hp. omega (arith, place_room n p hp)) (f (n * i + j)) (part_sum w j wide b e (omega arith)) ∙ ap v at) in
             holds_less (omega arith) all;
       }
 

@@ -41,9 +41,9 @@ places_below (suc n) i taps =
 pub all_below_lem : (taps : ℕ) {places : List ℕ} → places ≡ places_from 25 0 taps → AllBelow 25 places
 all_below_lem taps places_are = subst (AllBelow 25) (sym places_are) (places_below 25 0 taps)
 
--- n numbers from the one at a place on stand before the end
-pub place_room : (n from p : ℕ) → p < 25 → from + 25 * n ≤ 100 → from + n * p + n ≤ 100
-place_room n from p h room = let last : n * (p + 1) ≤ n * 25 = mul-le-mul_left n (omega arith) in omega arith
+-- n numbers from the one at a place on are among 25 n
+pub place_room : (n p : ℕ) → p < 25 → n * p + n ≤ 25 * n
+place_room n p h = let last : n * (p + 1) ≤ n * 25 = mul-le-mul_left n (omega arith) in omega arith
 
 -- ---- a loop that writes them
 
@@ -110,25 +110,25 @@ module _ {places : List ℕ} {f : ℕ → ℕ} {sum m : ℕ} (s : Summed places 
 
 -- ---- N such sums: those before the i-th have m + 1 places, the others m
 
-pub record Summing (n m i : ℕ) (places numbers : List ℕ) (from : ℕ) (sums : List ℕ) : Type 0 where
+pub record Summing (n m i : ℕ) (places numbers sums : List ℕ) : Type 0 where
   pub long : length sums ≡ n
-  pub done : (k : ℕ) → k < i → k < n → Summed places (λ p. get_or numbers (from + k + n * p) 0) (get_or sums k 0) (m + 1)
-  pub left : (k : ℕ) → i ≤ k → k < n → Summed places (λ p. get_or numbers (from + k + n * p) 0) (get_or sums k 0) m
+  pub done : (k : ℕ) → k < i → k < n → Summed places (λ p. get_or numbers (k + n * p) 0) (get_or sums k 0) (m + 1)
+  pub left : (k : ℕ) → i ≤ k → k < n → Summed places (λ p. get_or numbers (k + n * p) 0) (get_or sums k 0) m
 
-pub summing_start : {n from : ℕ} {places numbers : List ℕ} → Summing n 0 0 places numbers from (replicate n 0)
-summing_start {n} {from} {places} {numbers} = record {
+pub summing_start : {n : ℕ} {places numbers : List ℕ} → Summing n 0 0 places numbers (replicate n 0)
+summing_start {n} {places} {numbers} = record {
   long = length-replicate n 0;
   done = λ k h hk. absurd (not-suc-le-zero h);
-  left = λ k h hk. subst (λ (x : ℕ). Summed places (λ p. get_or numbers (from + k + n * p) 0) x 0) (sym (get_or-replicate n k 0 0 hk)) summed_start;
+  left = λ k h hk. subst (λ (x : ℕ). Summed places (λ p. get_or numbers (k + n * p) 0) x 0) (sym (get_or-replicate n k 0 0 hk)) summed_start;
 }
 
-module _ {n m i from : ℕ} {places numbers sums : List ℕ} (s : Summing n m i places numbers from sums) where
+module _ {n m i : ℕ} {places numbers sums : List ℕ} (s : Summing n m i places numbers sums) where
   pub summing_turn : i < n → m < length places
-      → Summing n m (i + 1) places numbers from (set sums i (bit_xor (get_or sums i 0) (get_or numbers (from + n * get_or places m 0 + i) 0)))
+      → Summing n m (i + 1) places numbers (set sums i (bit_xor (get_or sums i 0) (get_or numbers (n * get_or places m 0 + i) 0)))
   summing_turn hi hm =
-      let x = bit_xor (get_or sums i 0) (get_or numbers (from + n * get_or places m 0 + i) 0) in
-      let P : ℕ → ℕ → ℕ → Type 0 = λ k y j. Summed places (λ p. get_or numbers (from + k + n * p) 0) y j in
-      let there : from + i + n * get_or places m 0 ≡ from + n * get_or places m 0 + i = omega arith in
+      let x = bit_xor (get_or sums i 0) (get_or numbers (n * get_or places m 0 + i) 0) in
+      let P : ℕ → ℕ → ℕ → Type 0 = λ k y j. Summed places (λ p. get_or numbers (k + n * p) 0) y j in
+      let there : i + n * get_or places m 0 ≡ n * get_or places m 0 + i = omega arith in
       let new : P i (get_or (set sums i x) i 0) (m + 1) =
       subst (λ (y : ℕ). P i y (m + 1))
       (ap (λ (j : ℕ). bit_xor (get_or sums i 0) (get_or numbers j 0)) there ∙ sym (get_or-set_same sums i x 0 (omega (arith, s.long))))
@@ -140,10 +140,10 @@ module _ {n m i from : ℕ} {places numbers sums : List ℕ} (s : Summing n m i 
         left = λ k h hk. subst (λ (y : ℕ). P k y m) (sym (get_or-set_other sums i k x 0 (omega arith))) (s.left k (omega arith) hk);
       }
 
-  pub summing_next : n ≤ i → Summing n (m + 1) 0 places numbers from sums
+  pub summing_next : n ≤ i → Summing n (m + 1) 0 places numbers sums
   summing_next h = record { long = s.long; done = λ k h hk. absurd (not-suc-le-zero h); left = λ k hk lt. s.done k (omega arith) lt }
 
-  pub summing_end : i ≤ 0 → length places ≤ m → Sums n places numbers from sums
+  pub summing_end : i ≤ 0 → length places ≤ m → Sums n places numbers sums
   summing_end none h = record { at = λ k hk. summed_end (s.left k (omega arith) hk) h }
 
 -- ---- a sum at the places is that of the recurrence

@@ -1,8 +1,7 @@
 -- Words of the key are added to bytes: in one stretch, and stretch after stretch.
-use mathlib.Core.Path.{◌≡◌, refl, sym, ap, ap₂, ◌∙◌, subst}
-use mathlib.Core.Logic.{◌⊎◌, inl, inr}
+use mathlib.Core.Path.{◌≡◌, refl, sym, ap, ap₂, ◌∙◌}
 use mathlib.Core.List.{List, ◌++◌, append_assoc}
-use Prim.Native.Nat.{ℕ, zero, suc, ◌+◌, ◌*◌, ◌/◌, ◌%◌, ◌-◌, ◌^◌, ◌≤◌, ◌<◌, min}
+use Prim.Native.Nat.{ℕ, zero, suc, ◌+◌, ◌*◌, ◌/◌, ◌%◌, ◌^◌, ◌≤◌, ◌<◌}
 use native.Mathlib.Nat.{not-suc-le-zero, le_of_suc-le-suc, mod-lt, add-zero, zero-add, add-suc, suc-add}
 use native.Mathlib.Omega.{arith}
 use lib.Dec.{lit<}
@@ -12,7 +11,6 @@ use lib.Seq.{length-take-le, take_at, drop_at}
 use borrow.Rule.Slice.PartMut.{mid_of, post_of, put_mid, same_len_mid}
 use Rattle.basics.specs.Lists.{zeros}
 use Rattle.basics.proofs.Lists.{zeros_length}
-use Rattle.basics.proofs.Tests.{lt_or_ge}
 use Rattle.basics.proofs.Numbers.{byte_at}
 use Rattle.lent.specs.Written.{written}
 use Rattle.lent.specs.Numbers.{bytes_of}
@@ -134,54 +132,39 @@ stretch taps at k bytes words sum room there added =
     (ap₂ (λ (a : List ℕ) (s : ℕ). a ++ scrambled_from taps s rest) scrambles (stages_later taps at k ∙ ap (λ (n : ℕ). after taps (8 * n) now) (sym size))
     ∙ sym (scrambled_append taps now middle rest) ∙ ap (scrambled_from taps now) (take-append-drop k (drop at bytes)))
 
--- a stretch goes on for 400 bytes, or to the end
-pub stretch_ends : (at n end : ℕ) → at < n → end ≡ min (at + 400) n → (end - at ≡ 400) ⊎ ((at + (end - at) ≡ n) × (end - at ≤ 400))
-stretch_ends at n end h e = elim (lt_or_ge (at + 400) n) [ inl low ↦ inl (omega arith) | inr high ↦ inr (omega arith, omega arith) ]
-
 pub record Scrambling (taps : ℕ) (before : List ℕ) (at : ℕ) (bytes words : List ℕ) : Type 0 where
-  pub whole : at % 400 ≡ 0
   pub same : length bytes ≡ length before
-  pub key : Holds (words_from taps (at - 400)) 50 words
+  pub key : Holds (words_from taps at) 50 words
   pub so_far : take at bytes ++ scrambled_from taps (stages_at taps at) (drop at bytes) ≡ scrambled taps before
 
 pub scrambling_start : {taps : ℕ} {bytes words : List ℕ} → Holds (λ k. key_number taps 8 (8 * k)) 50 words → Scrambling taps bytes 0 bytes words
 unfolding after
-scrambling_start {taps} {bytes} {words} h = record {
-  whole = refl;
+scrambling_start {taps} {bytes} h = record {
   same = refl;
   key = holds_same (λ k. ap (key_number taps 8) (sym (zero-add (8 * k)))) h;
   so_far = sym (scrambled_stages taps bytes);
 }
 
+pub scrambling_same : {taps at place : ℕ} {before bytes now words key : List ℕ} → Scrambling taps before at bytes words
+    → at ≡ place → now ≡ bytes → key ≡ words → Scrambling taps before place now key
+scrambling_same s e f g = rw (f, g, ← e) s
+
 module _ {taps at : ℕ} {before bytes words : List ℕ} (s : Scrambling taps before at bytes words) where
-  pub scrambling_first : at ≤ 0 → Holds (words_from taps at) 50 words
-  scrambling_first h = let e : at - 400 ≡ at = omega arith in subst (λ (n : ℕ). Holds (words_from taps n) 50 words) e s.key
-
-  pub scrambling_later : {more later : List ℕ} → 0 < at → Extends 2 (places_from 25 0 taps) words more → Moved more later
-      → Holds (words_from taps at) 50 later
-  scrambling_later {more} {later} h x m =
-      let e : at - 400 + 400 ≡ at = omega (arith, s.whole) in
-      subst (λ (n : ℕ). Holds (words_from taps n) 50 later) e (words_next taps (at - 400) x m s.key)
-
-  -- the bytes from there on, k of them, up to the end or to the next stretch
-  pub scrambling_turn : (k : ℕ) {now sum : List ℕ} → Holds (words_from taps at) 50 now → at + k ≤ length bytes
-      → (k ≡ 400) ⊎ ((at + k ≡ length bytes) × (k ≤ 400)) → Added now (mid_of at k bytes) sum
-      → Scrambling taps before (at + 400) (put_mid at k bytes sum) now
-  scrambling_turn k {now} {sum} there room where_to added =
+  pub scrambling_turn : (k : ℕ) {sum more later : List ℕ} → k ≡ 400 → at + k ≤ length bytes → Added words (mid_of at k bytes) sum
+      → Extends 2 (places_from 25 0 taps) words more → Moved more later
+      → Scrambling taps before (at + 400) (put_mid at k bytes sum) later
+  scrambling_turn k {sum} e room added x m =
       let next = put_mid at k bytes sum in
-      let all : length next ≡ length bytes = same_len_mid at k bytes sum (added_length taps at there added) in
-      let done = stretch taps at k bytes now sum room there added ∙ s.so_far in
-      let back : at + 400 - 400 ≡ at = omega arith in
       record {
-        whole = omega (arith, s.whole);
-        same = all ∙ s.same;
-        key = subst (λ (n : ℕ). Holds (words_from taps n) 50 now) (sym back) there;
-        so_far = elim where_to [
-          | inl e ↦ ap (λ (n : ℕ). take (at + n) next ++ scrambled_from taps (stages_at taps (at + n)) (drop (at + n) next)) (sym e) ∙ done
-          | inr e ↦ bytes_end taps (stages_at taps (at + 400)) next (at + 400) (omega (arith, e.0, e.1))
-              ∙ sym (bytes_end taps (stages_at taps (at + k)) next (at + k) (omega (arith, e.0))) ∙ done
-        ];
+        same = same_len_mid at k bytes sum (added_length taps at s.key added) ∙ s.same;
+        key = words_next taps at x m s.key;
+        so_far = ap (λ (n : ℕ). take (at + n) next ++ scrambled_from taps (stages_at taps (at + n)) (drop (at + n) next)) (sym e)
+            ∙ stretch taps at k bytes words sum room s.key added ∙ s.so_far;
       }
 
-  pub scrambling_end : length bytes ≤ at → bytes ≡ scrambled taps before
-  scrambling_end h = sym (bytes_end taps (stages_at taps at) bytes at h) ∙ s.so_far
+  pub scrambling_end : (k : ℕ) {sum : List ℕ} → at + k ≡ length bytes → Added words (mid_of at k bytes) sum
+      → put_mid at k bytes sum ≡ scrambled taps before
+  scrambling_end k {sum} e added =
+      let all : length (put_mid at k bytes sum) ≡ length bytes = same_len_mid at k bytes sum (added_length taps at s.key added) in
+      sym (bytes_end taps (stages_at taps (at + k)) (put_mid at k bytes sum) (at + k) (omega arith))
+      ∙ stretch taps at k bytes words sum (omega arith) s.key added ∙ s.so_far

@@ -43,9 +43,9 @@ sum_at (p ∷ places) f = bit_xor (f p) (sum_at places f)
 abbrev pub FollowsBy : ℕ → List ℕ → (ℕ → ℕ) → Type 0
 FollowsBy n places v = (k : ℕ) → v (k + 25 * n) ≡ sum_at places (λ i. v (k + n * i))
 
--- the sums at the places of every n-th number of a list, from an index on and from the n - 1 that follow it
-pub record Sums (n : ℕ) (places numbers : List ℕ) (from : ℕ) (sums : List ℕ) : Type 0 where
-  pub at : (i : ℕ) → i < n → get_or sums i 0 ≡ sum_at places (λ p. get_or numbers (from + i + n * p) 0)
+-- the sums at the places of every n-th number of a list, from each of the first n on
+pub record Sums (n : ℕ) (places numbers sums : List ℕ) : Type 0 where
+  pub at : (i : ℕ) → i < n → get_or sums i 0 ≡ sum_at places (λ p. get_or numbers (i + n * p) 0)
 
 -- the first n numbers of a list are v 0, v 1, ..
 pub record Holds (v : ℕ → ℕ) (n : ℕ) (l : List ℕ) : Type 0 where

@@ -27,8 +27,8 @@ pub fn extend<const N: usize>(recurrence: &Recurrence, numbers: &mut [u64; 100])
     ensures { Extends N (places_from 25 0 recurrence.now.taps) numbers.old numbers.new }
 {
     for i in 0..25 {
-        let sums = recurrence.sums_at::<N>(numbers, N * i);
-        let at = N * (25 + i);
+        let sums = recurrence.sums_of::<N>(&numbers[N * i..N * (i + 25)]);
+        let at = N * (i + 25);
         numbers[at..at + N].copy_from_slice(&sums);
     }
 }

@@ -25,15 +25,15 @@ pub fn scramble(taps: u32, bytes: &mut [u8])
 {
     let recurrence = Recurrence::of(taps);
     let mut words = levels::first_words(&recurrence);
-    // A stretch of 400 bytes takes 50 words; the next 50 are made only where more bytes follow.
-    for at in (0..bytes.len()).step_by(400) {
-        if 0 < at {
-            levels::extend::<2>(&recurrence, &mut words);
-            levels::move_on(&mut words);
-        }
-        let end = usize::min(at + 400, bytes.len());
-        add_words(&words, &mut bytes[at..end]);
+    // A stretch of 400 bytes takes 50 words; the next 50 are made only where more bytes follow. The last stretch may be shorter, and stands by itself: so the
+    // compiler knows the length of all others.
+    let last = bytes.len().saturating_sub(1) / 400 * 400;
+    for at in (0..last).step_by(400) {
+        add_words(&words, &mut bytes[at..at + 400]);
+        levels::extend::<2>(&recurrence, &mut words);
+        levels::move_on(&mut words);
     }
+    add_words(&words, &mut bytes[last..]);
 }
 
 // Adds the first 50 of these words of the key to at most 400 bytes.

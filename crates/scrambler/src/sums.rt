@@ -1,5 +1,5 @@
 // The recurrence of a setting: the places of its taps, and sums of numbers that stand at them.
-ghost use Rattle.std.specs.Prelude.{◌≡◌, ◌*◌, ◌≤◌, ◌+◌, take};
+ghost use Rattle.std.specs.Prelude.{◌≡◌, ◌*◌, ◌≤◌, length, take};
 ghost use Rattle.scrambler.specs.Keys.{places_from, Sums};
 
 // The taps, and in front of `places` the places of those that are set: no heap is allowed, so the count stands beside an array.
@@ -32,16 +32,16 @@ impl Recurrence {
         }
     }
 
-    // The sums of every N-th number at the places: those from an index on, and from each of the N - 1 that follow it.
-    pub fn sums_at<const N: usize>(&self, numbers: &[u64; 100], from: usize) -> [u64; N]
-        requires { from + 25 * N ≤ 100 }
-        ensures { Sums N (places_from 25 0 self.now.taps) numbers.now from result }
+    // The sums of every N-th of 25 N numbers at the places: from each of the first N on. One function for N of 1 and of 2, so that the compiler knows N: two
+    // neighbours are one lane.
+    pub fn sums_of<const N: usize>(&self, numbers: &[u64]) -> [u64; N]
+        requires { length numbers.now ≡ 25 * N }
+        ensures { Sums N (places_from 25 0 self.now.taps) numbers.now result }
     {
         let mut sums = [0u64; N];
         for &place in &self.places[..self.count] {
-            let at = from + N * place;
             for i in 0..N {
-                sums[i] ^= numbers[at + i];
+                sums[i] ^= numbers[N * place + i];
             }
         }
         sums

@@ -1,7 +1,8 @@
 -- N numbers a turn: the invariant and its turns are those of `Extending` in Holds.antt.
 use mathlib.Core.Path.{subst, sym}
 use mathlib.Core.List.{List}
-use Prim.Native.Nat.{ℕ, ◌*◌}
+use Prim.Native.Nat.{ℕ, ◌*◌, ◌+◌, ◌-◌}
+use lib.ListN.{take, drop}
 use native.Mathlib.Omega.{arith}
 use Rattle.scrambler.specs.Keys.{places_from, Sums}
 use Rattle.scrambler.proofs.Places.{places_below}
@@ -17,8 +18,11 @@ loop-i-preserved g c =
     let taps = c.args.recurrence.now.taps in
     let n = g.row.N in
     let copied = c.copy_from_slice in
-    extending_turn loop.invariant _ (omega arith) (places_below 25 0 taps) c.requires c.loop-i-test.true copied.ensures.len
-    (subst (λ (sums : List ℕ). Sums n (places_from 25 0 taps) loop.numbers (n * loop.i) sums) (sym copied.ensures.after) c.sums_at-sums.ensures)
+    let at = n * (loop.i + 25) in
+    let wide = at - n * loop.i in
+    let part = λ (sums : List ℕ). Sums n (places_from 25 0 taps) (take wide (drop (n * loop.i) loop.numbers)) sums in
+    extending_turn loop.invariant (at + n - at) wide (omega arith) (omega arith) (places_below 25 0 taps) c.requires c.loop-i-test.true copied.ensures.len
+    (subst part (sym copied.ensures.after) c.sums_of-sums.ensures)
 
 pub returns : goal.returns
 returns g c = extending_end c.loop-i.invariant c.loop-i-test.false
