@@ -54,7 +54,10 @@ pub fn payload_judged<F: Form>(body: &[u8]) -> Outcome {
 // Taps in four bytes, and whether they are allowed.
 pub fn taps(body: &[u8]) -> Outcome {
     let (taps, expected) = record::front(body)?;
-    outcome::of(&[u8::from(scrambler::are_taps(u32::from_be_bytes(taps)))], expected)
+    outcome::of(
+        &[u8::from(scrambler::are_taps(u32::from_be_bytes(taps)))],
+        expected,
+    )
 }
 
 // Taps in four bytes, some bytes, and the same scrambled.

@@ -14,12 +14,24 @@ const GENERATOR: [u8; 17] = [
 const EXPONENTS: [usize; 9] = [0, 30, 230, 49, 235, 129, 81, 76, 173];
 
 // A CRC of some bytes, beside the one that is published.
-fn crc_16<W: Write>(out: &mut W, count: Count, name: &str, bytes: &[u8], published: u16) -> io::Result<Count> {
+fn crc_16<W: Write>(
+    out: &mut W,
+    count: Count,
+    name: &str,
+    bytes: &[u8],
+    published: u16,
+) -> io::Result<Count> {
     let found = crc::crc_16(bytes);
     count.with_number(out, name, u64::from(found), u64::from(published), 4)
 }
 
-fn crc_32<W: Write>(out: &mut W, count: Count, name: &str, bytes: &[u8], published: u32) -> io::Result<Count> {
+fn crc_32<W: Write>(
+    out: &mut W,
+    count: Count,
+    name: &str,
+    bytes: &[u8],
+    published: u32,
+) -> io::Result<Count> {
     let found = crc::crc_32(bytes);
     count.with_number(out, name, u64::from(found), u64::from(published), 8)
 }
@@ -27,7 +39,13 @@ fn crc_32<W: Write>(out: &mut W, count: Count, name: &str, bytes: &[u8], publish
 // What the catalogue tries a CRC on, one byte, and none.
 fn check_sums<W: Write>(out: &mut W, mut count: Count) -> io::Result<Count> {
     count = crc_16(out, count, "CRC-16 of \"123456789\"", b"123456789", 0x31c3)?;
-    count = crc_32(out, count, "CRC-32 of \"123456789\"", b"123456789", 0x89a1897f)?;
+    count = crc_32(
+        out,
+        count,
+        "CRC-32 of \"123456789\"",
+        b"123456789",
+        0x89a1897f,
+    )?;
     count = crc_16(out, count, "CRC-16 of 01", &[1], 0x1021)?;
     count = crc_32(out, count, "CRC-32 of 01", &[1], 0x04c11db7)?;
     count = crc_16(out, count, "CRC-16 of nothing", &[], 0)?;
@@ -56,13 +74,30 @@ fn generators<W: Write>(out: &mut W, count: Count) -> io::Result<Count> {
     let found = reed_solomon::register::generator();
     count
         .with_bytes(out, "generator, 17 coefficients:", &found, &GENERATOR)?
-        .with_bytes(out, "generator, by powers of 2:", &found, &generator_of_powers())
+        .with_bytes(
+            out,
+            "generator, by powers of 2:",
+            &found,
+            &generator_of_powers(),
+        )
 }
 
 fn digests<W: Write>(out: &mut W, count: Count) -> io::Result<Count> {
     count
-        .with_number(out, "FNV-1a of nothing", digest::of(&[]), 0xcbf29ce484222325, 16)?
-        .with_number(out, "FNV-1a of \"foobar\"", digest::of(b"foobar"), 0x85944171f73967e8, 16)
+        .with_number(
+            out,
+            "FNV-1a of nothing",
+            digest::of(&[]),
+            0xcbf29ce484222325,
+            16,
+        )?
+        .with_number(
+            out,
+            "FNV-1a of \"foobar\"",
+            digest::of(b"foobar"),
+            0x85944171f73967e8,
+            16,
+        )
 }
 
 pub fn tried<W: Write>(out: &mut W) -> io::Result<Count> {

@@ -1,6 +1,6 @@
 // The kinds of record that try whole frames, 13 to 15 and 34, and their repair, 35 and 36; and the function that tries each.
 use crate::{frames, repairs};
-use outcome::Outcome;
+use outcome::{Malformed, Outcome};
 use vectors::lent_bytes::Lent;
 
 pub fn outcome(kind: u8, body: &[u8], at_hand: &mut Lent) -> Outcome {
@@ -11,6 +11,6 @@ pub fn outcome(kind: u8, body: &[u8], at_hand: &mut Lent) -> Outcome {
         34 => frames::changed(body, at_hand),
         35 => repairs::repaired(body, at_hand),
         36 => repairs::shown(body, at_hand),
-        _ => Outcome::Malformed,
+        _ => Err(Malformed),
     }
 }

@@ -1,106 +1,85 @@
 // A header as the vectors hold it, field by field in 24 bytes, a number's high byte first: TXFN 2, type, RXFN 2, ACK,
 // ACK-valid, TX_TS 8, seconds, TS-applies, the message's kind, its numbers 2 each. Each field has more room than on the
 // wire, so that one that is too large can be given.
-ghost use Rattle.std.specs.Prelude.{◌≤◌, length};
-
-use crate::messages;
 use crate::messages::Message;
 use counts::{Rxfn, Txfn};
+use fast_channel::FastChannel;
 use header::{Fields, FrameKind, Header};
-use vectors::numbers;
-
-fn write_message(bytes: &mut [u8; 24], message: Message) {
-    bytes[17] = message.kind;
-    numbers::write_two(bytes, 18, message.first);
-    numbers::write_two(bytes, 20, message.second);
-    numbers::write_two(bytes, 22, message.third);
-}
-
-// All fields but TXFN and the type.
-fn write_fields(bytes: &mut [u8; 24], fields: Fields) {
-    numbers::write_two(bytes, 3, fields.rxfn.0);
-    bytes[5] = fields.ack as u8;
-    bytes[6] = fields.valid as u8;
-    numbers::write_eight(bytes, 7, fields.stamp);
-    bytes[15] = fields.seconds;
-    bytes[16] = fields.applies;
-    let message = fields.message;
-    write_message(bytes, messages::numbers(message));
-}
+use outcome::Malformed;
+use refusals::Refusal;
+use vectors::record;
 
 // Every field of a header.
 pub fn bytes(header: Header) -> [u8; 24] {
-    let kind = header.kind;
     let fields = header.fields;
+    let message = Message::from(fields.message);
+    let [first, second, third] = message.numbers;
     let mut bytes = [0u8; 24];
-    numbers::write_two(&mut bytes, 0, header.txfn.0);
-    bytes[2] = u8::from(kind);
-    write_fields(&mut bytes, fields);
+    bytes[0..2].copy_from_slice(&header.txfn.0.to_be_bytes());
+    bytes[2] = u8::from(header.kind);
+    bytes[3..5].copy_from_slice(&fields.rxfn.0.to_be_bytes());
+    bytes[5] = u8::from(fields.ack);
+    bytes[6] = u8::from(fields.valid);
+    bytes[7..15].copy_from_slice(&fields.stamp.to_be_bytes());
+    bytes[15] = fields.seconds;
+    bytes[16] = fields.applies;
+    bytes[17] = message.kind;
+    bytes[18..20].copy_from_slice(&first.to_be_bytes());
+    bytes[20..22].copy_from_slice(&second.to_be_bytes());
+    bytes[22..24].copy_from_slice(&third.to_be_bytes());
     bytes
 }
 
-fn message_of(bytes: &[u8]) -> Message
-    requires { 24 ≤ length bytes.now }
-{
-    Message {
-        kind: bytes[17],
-        first: numbers::two_at(bytes, 18),
-        second: numbers::two_at(bytes, 20),
-        third: numbers::two_at(bytes, 22),
-    }
-}
-
-fn fields_of(bytes: &[u8]) -> Fields
-    requires { 24 ≤ length bytes.now }
-{
-    let message = messages::channel(message_of(bytes));
-    Fields {
-        rxfn: Rxfn(numbers::two_at(bytes, 3)),
-        ack: bytes[5] != 0,
-        valid: bytes[6] != 0,
-        stamp: numbers::eight_at(bytes, 7),
-        seconds: bytes[15],
-        applies: bytes[16],
-        message,
-    }
-}
-
-// The header of 24 bytes.
-pub fn header(bytes: &[u8; 24]) -> Header {
-    let kind = FrameKind::from(bytes[2]);
-    let fields = fields_of(bytes);
-    Header {
-        txfn: Txfn(numbers::two_at(bytes, 0)),
+// The message at the front of its eight bytes' kind and numbers.
+fn message(bytes: &[u8]) -> Result<FastChannel, Malformed> {
+    let ([kind], rest) = record::front::<1>(bytes)?;
+    let (first, rest) = record::front(rest)?;
+    let (second, rest) = record::front(rest)?;
+    let (third, _) = record::front(rest)?;
+    Ok(FastChannel::from(Message {
         kind,
-        fields,
+        numbers: [
+            u16::from_be_bytes(first),
+            u16::from_be_bytes(second),
+            u16::from_be_bytes(third),
+        ],
+    }))
+}
+
+// The header in the first 24 bytes of a body, and what stands behind it. Bytes that are no header's, so that its bytes are others, are malformed.
+pub fn header(body: &[u8]) -> Result<(Header, &[u8]), Malformed> {
+    let (given, behind) = record::front::<24>(body)?;
+    let (txfn, rest) = record::front(&given)?;
+    let ([kind], rest) = record::front::<1>(rest)?;
+    let (rxfn, rest) = record::front(rest)?;
+    let ([ack, valid], rest) = record::front::<2>(rest)?;
+    let (stamp, rest) = record::front(rest)?;
+    let ([seconds, applies], rest) = record::front::<2>(rest)?;
+    let header = Header {
+        txfn: Txfn(u16::from_be_bytes(txfn)),
+        kind: FrameKind::from(kind),
+        fields: Fields {
+            rxfn: Rxfn(u16::from_be_bytes(rxfn)),
+            ack: ack != 0,
+            valid: valid != 0,
+            stamp: u64::from_be_bytes(stamp),
+            seconds,
+            applies,
+            message: message(rest)?,
+        },
+    };
+    if bytes(header) != given {
+        return Err(Malformed);
     }
+    Ok((header, behind))
 }
 
-// Whether the 24 bytes are those of a header: its bytes are these again.
-pub fn are_a_header(given: &[u8; 24]) -> bool {
-    let again = bytes(header(given));
-    again == *given
-}
-
-// The first 24 bytes of a body.
-pub fn first(body: &[u8]) -> [u8; 24]
-    requires { 24 ≤ length body.now }
-{
-    let mut first = [0u8; 24];
-    lent::write_at(&mut first, 0, &body[0..24]);
-    first
-}
-
-// An answer in 25 bytes: the refusal's number, 0 for none, and every field of the header, all 0 where it is refused.
-pub fn accepted(header: Header) -> [u8; 25] {
-    let fields = bytes(header);
+// What a call answers that reads a header, in 25 bytes: the refusal's number, 0 for none, and every field of the header, all 0 where it is refused.
+pub fn answer(found: Result<Header, Refusal>) -> [u8; 25] {
     let mut answer = [0u8; 25];
-    lent::write_at(&mut answer, 1, &fields);
-    answer
-}
-
-pub fn refused(number: u8) -> [u8; 25] {
-    let mut answer = [0u8; 25];
-    answer[0] = number;
+    match found {
+        Ok(header) => answer[1..].copy_from_slice(&bytes(header)),
+        Err(refusal) => answer[0] = u8::from(refusal),
+    }
     answer
 }

@@ -8,54 +8,48 @@ const RESERVED: u8 = 7;
 
 const ABSENT: u8 = 8;
 
-#[derive(Clone, Copy)]
+// No `FlatMessage`, whose first number is an opcode: here it is a kind.
+#[derive(Clone, Copy, Default)]
 pub struct Message {
     pub kind: u8,
-    pub first: u16,
-    pub second: u16,
-    pub third: u16,
+    pub numbers: [u16; 3],
 }
 
-// A message that has its opcode for a kind.
-fn of_opcode(message: FlatMessage) -> Message {
-    Message {
-        kind: message.opcode,
-        first: message.first,
-        second: message.second,
-        third: message.third,
-    }
-}
-
-fn of_kind(kind: u8, first: u16) -> Message {
-    Message {
-        kind,
-        first,
-        second: 0,
-        third: 0,
-    }
-}
-
-pub fn numbers(channel: FastChannel) -> Message {
-    match channel {
-        FastChannel::Reserved(opcode) => of_kind(RESERVED, opcode as u16),
-        FastChannel::Absent => of_kind(ABSENT, 0),
-        _ => of_opcode(FlatMessage::from(channel)),
+impl From<FastChannel> for Message {
+    fn from(channel: FastChannel) -> Message {
+        match channel {
+            FastChannel::Reserved(opcode) => Message {
+                kind: RESERVED,
+                numbers: [u16::from(opcode), 0, 0],
+            },
+            FastChannel::Absent => Message {
+                kind: ABSENT,
+                numbers: [0; 3],
+            },
+            _ => {
+                let flat = FlatMessage::from(channel);
+                Message {
+                    kind: flat.opcode,
+                    numbers: [flat.first, flat.second, flat.third],
+                }
+            }
+        }
     }
 }
 
-// The message of a kind. What no message has is lost: `numbers` then gives other numbers.
-pub fn channel(message: Message) -> FastChannel {
-    let kind = message.kind;
-    if kind == RESERVED {
-        return FastChannel::Reserved((message.first % 256) as u8);
+// What no message has is lost: the way back then gives other numbers.
+impl From<Message> for FastChannel {
+    fn from(message: Message) -> FastChannel {
+        let [first, second, third] = message.numbers;
+        match message.kind {
+            RESERVED => FastChannel::Reserved(first.to_be_bytes()[1]),
+            ABSENT => FastChannel::Absent,
+            opcode => messages::message_of(FlatMessage {
+                opcode,
+                first,
+                second,
+                third,
+            }),
+        }
     }
-    if kind == ABSENT {
-        return FastChannel::Absent;
-    }
-    messages::message_of(FlatMessage {
-        opcode: kind,
-        first: message.first,
-        second: message.second,
-        third: message.third,
-    })
 }

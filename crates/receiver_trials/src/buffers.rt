@@ -1,43 +1,27 @@
 // The kinds of record that set the bytes of hold and list, or compare them.
-use outcome::Outcome;
-use vectors::{digest, numbers, seeded};
-
-// The hold that is lent to calls, and some bytes behind it, so that a byte written past its end is seen. No bytes yet.
-pub fn no_hold() -> [u8; 9012] {
-    [0u8; 9012]
-}
-
-// The list's buffer, and some bytes behind it.
-pub fn no_list() -> [u8; 10920] {
-    [0u8; 10920]
-}
+use outcome::{Malformed, Outcome};
+use vectors::buffers::Buffers;
+use vectors::{digest, record, seeded};
 
 // The digests of hold and list, each with the bytes behind it.
-pub fn outcome(hold: &[u8], list: &[u8], expected: &[u8]) -> Outcome {
-    if expected.len() < 8 {
-        return Outcome::Malformed;
-    }
+pub fn outcome(buffers: &Buffers, expected: &[u8]) -> Outcome {
+    let (hold, list) = record::front::<8>(expected)?;
     outcome::both(
-        digest::outcome(hold, &expected[0..8]),
-        digest::outcome(list, &expected[8..]),
+        digest::outcome(&buffers.hold, &hold),
+        digest::outcome(&buffers.list, list),
     )
 }
 
 // The seeds of hold and list, and the digests of the bytes from them.
-pub fn begun(body: &[u8], hold: &mut [u8], list: &mut [u8]) -> Outcome {
-    if body.len() < 8 {
-        return Outcome::Malformed;
-    }
-    seeded::fill(numbers::four_at(body, 0), hold);
-    seeded::fill(numbers::four_at(body, 4), list);
-    outcome(hold, list, &body[8..])
+pub fn begun(body: &[u8], buffers: &mut Buffers) -> Outcome {
+    let (hold_seed, rest) = record::front(body)?;
+    let (list_seed, expected) = record::front(rest)?;
+    seeded::fill(u32::from_be_bytes(hold_seed), &mut buffers.hold);
+    seeded::fill(u32::from_be_bytes(list_seed), &mut buffers.list);
+    outcome(buffers, expected)
 }
 
 // The first bytes of the hold or of the list, as many as are given.
 pub fn front_in_full(body: &[u8], bytes: &[u8]) -> Outcome {
-    let length = body.len();
-    if bytes.len() < length {
-        return Outcome::Malformed;
-    }
-    outcome::of(&bytes[0..length], body)
+    outcome::of(bytes.get(..body.len()).ok_or(Malformed)?, body)
 }

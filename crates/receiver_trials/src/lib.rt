@@ -3,7 +3,7 @@
 #![tactic(auto)]
 
 mod arrivals;
-pub mod buffers;
+mod buffers;
 mod entries;
 pub mod kinds;
 mod states;

@@ -4,5 +4,5 @@
 
 mod calls;
 pub mod kinds;
-pub mod queues;
+mod queues;
 mod states;

@@ -5,75 +5,24 @@
 mod kinds;
 
 use code_trials::published;
-use frame_trials::frames;
-use receiver_trials::buffers;
-use sender_trials::queues;
 use std::io;
 use std::io::{Read, Write};
-use vectors::lent_bytes::Lent;
+use vectors::buffers::Buffers;
 use vectors::record;
-use vectors::record::Head;
 use vectors::tally::Tally;
 
-// Reads the body of a record, and tries it. The 65,536 bytes that are lent have room for every body.
-fn tried<R: Read, W: Write>(
-    input: &mut R,
-    out: &mut W,
-    tally: Tally,
-    kind: u8,
-    length: usize,
-    lent: &mut [u8],
-    at_hand: &mut Lent,
-    queue: &mut [u8],
-    hold: &mut [u8],
-    list: &mut [u8],
-) -> io::Result<Tally> {
-    if lent.len() < length {
-        return tally.cut_short(out);
-    }
-    let body = &mut lent[0..length];
-    if record::is_read(input, body) {
-        let outcome = kinds::outcome(kind, body, at_hand, queue, hold, list);
-        return tally.with(out, kind, outcome);
-    }
-    tally.cut_short(out)
-}
-
-fn next_tried<R: Read, W: Write>(
-    input: &mut R,
-    out: &mut W,
-    tally: Tally,
-    lent: &mut [u8],
-    at_hand: &mut Lent,
-    queue: &mut [u8],
-    hold: &mut [u8],
-    list: &mut [u8],
-) -> io::Result<Tally> {
-    match record::read_head(input) {
-        Head::Record { kind, length } => tried(
-            input, out, tally, kind, length, lent, at_hand, queue, hold, list,
-        ),
-        Head::Short => tally.cut_short(out),
-    }
-}
-
 // Tries as many records as the input announces, or as it holds.
-fn all_tried<R: Read, W: Write>(
-    input: &mut R,
-    out: &mut W,
-    announced: u64,
-    lent: &mut [u8],
-    queue: &mut [u8],
-    hold: &mut [u8],
-    list: &mut [u8],
-) -> io::Result<Tally> {
+fn all_tried<R: Read, W: Write>(input: &mut R, out: &mut W, announced: u32) -> io::Result<Tally> {
     let mut tally = Tally::new();
-    let mut left = announced;
-    let mut at_hand = frames::none_at_hand();
-    while 0 < left && tally.goes_on {
-        let next = next_tried(input, out, tally, lent, &mut at_hand, queue, hold, list)?;
-        tally = next;
-        left -= 1;
+    let mut buffers = Buffers::new();
+    let mut room = [0u8; 65536];
+    for _ in 0..announced {
+        let Some(record) = record::next(input, &mut room) else {
+            tally.cut_short(out)?;
+            return Ok(tally);
+        };
+        let outcome = kinds::outcome(record.kind, record.body, &mut buffers);
+        tally.add(out, record.kind, outcome)?;
     }
     Ok(tally)
 }
@@ -81,21 +30,14 @@ fn all_tried<R: Read, W: Write>(
 fn try_all<R: Read, W: Write>(input: &mut R, out: &mut W) -> io::Result<()> {
     let checks = published::tried(out)?;
     let wrong_checks = published::planted(out)?;
-    let announced = record::read_count(input);
-    let mut lent = [0u8; 65536];
-    let mut queue = queues::none();
-    let mut hold = buffers::no_hold();
-    let mut list = buffers::no_list();
-    let all = all_tried(
-        input, out, announced, &mut lent, &mut queue, &mut hold, &mut list,
-    )?;
-    let tally = all.ended(out, record::is_at_end(input))?;
-    kinds::print(out, tally)?;
-    printing::say(out, b"planted check values ")?;
-    wrong_checks.print(out)?;
-    printing::say(out, b"\ncheck values ")?;
-    checks.print(out)?;
-    printing::say(out, b"\n")?;
+    let announced = record::announced(input);
+    let mut tally = all_tried(input, out, announced)?;
+    if !record::is_at_end(input) {
+        tally.followed(out)?;
+    }
+    kinds::print(out, &tally)?;
+    writeln!(out, "planted check values {wrong_checks}")?;
+    writeln!(out, "check values {checks}")?;
     tally.print_totals(out, announced)
 }
 

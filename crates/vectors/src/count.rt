@@ -1,9 +1,8 @@
 // How many results were compared, and how many of them differ.
 ghost use Rattle.std.specs.Prelude.{◌≡◌, ◌<◌, ◌≤◌, false};
 
-use std::fmt;
-use std::io;
 use std::io::Write;
+use std::{fmt, io};
 
 #[derive(Clone, Copy, Default)]
 pub struct Count {
@@ -13,7 +12,11 @@ pub struct Count {
 
 impl fmt::Display for Count {
     fn fmt<W: fmt::Write>(&self, f: &mut fmt::Formatter<W>) -> fmt::Result {
-        write!(f, "{} compared, {} different", self.compared, self.different)
+        write!(
+            f,
+            "{} compared, {} different",
+            self.compared, self.different
+        )
     }
 }
 
@@ -37,7 +40,10 @@ impl Count {
         published: u64,
         digits: usize,
     ) -> io::Result<Count> {
-        writeln!(out, "{name} is {found:0digits$x}, published {published:0digits$x}")?;
+        writeln!(
+            out,
+            "{name} is {found:0digits$x}, published {published:0digits$x}"
+        )?;
         Ok(self.with(found == published))
     }
 

@@ -41,7 +41,10 @@ impl Tally {
         match outcome {
             Ok(is_same) => {
                 if is_same && is_planted(kind) {
-                    writeln!(out, "record {place} of kind {kind} is planted, and does not differ")?;
+                    writeln!(
+                        out,
+                        "record {place} of kind {kind} is planted, and does not differ"
+                    )?;
                 }
                 if !is_same && !is_planted(kind) {
                     writeln!(out, "record {place} of kind {kind} differs")?;
@@ -72,7 +75,11 @@ impl Tally {
 
     // The input ended before the end of the record at this place.
     pub fn cut_short<W: Write>(&mut self, out: &mut W) -> io::Result<()> {
-        writeln!(out, "the input ends before the end of record {}", self.place)?;
+        writeln!(
+            out,
+            "the input ends before the end of record {}",
+            self.place
+        )?;
         self.refused();
         Ok(())
     }
@@ -85,7 +92,12 @@ impl Tally {
     }
 
     // The lines of the kinds from a number on.
-    pub fn print_kinds<W: Write>(&self, out: &mut W, first: usize, names: &[&str]) -> io::Result<()> {
+    pub fn print_kinds<W: Write>(
+        &self,
+        out: &mut W,
+        first: usize,
+        names: &[&str],
+    ) -> io::Result<()> {
         for (count, name) in self.kinds.iter().skip(first).zip(names) {
             writeln!(out, "{} {} {name}", count.compared, count.different)?;
         }
@@ -96,6 +108,10 @@ impl Tally {
     pub fn print_totals<W: Write>(&self, out: &mut W, announced: u32) -> io::Result<()> {
         let [total, planted] = self.totals;
         writeln!(out, "planted vectors {planted}")?;
-        writeln!(out, "vectors {announced} announced, {total}, {} malformed", self.malformed)
+        writeln!(
+            out,
+            "vectors {announced} announced, {total}, {} malformed",
+            self.malformed
+        )
     }
 }
