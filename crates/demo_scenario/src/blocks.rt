@@ -25,6 +25,7 @@ fn sample(number: u16, place: usize) -> u8
 }
 
 // Writes a block of as many bytes as are lent.
+#[tactic(auto, using(crate::proofs::Samples::one_more, crate::proofs::Samples::all_written))]
 pub fn write(number: u16, block: &mut [u8])
     ensures { block.new ≡ entries (sample_of number) 0 (length block.old) }
 {
@@ -34,6 +35,7 @@ pub fn write(number: u16, block: &mut [u8])
 }
 
 // Whether bytes are the block of a number; never where one of them differs.
+#[tactic(auto, using(crate::proofs::Samples::each_sample))]
 pub fn is_block(number: u16, bytes: &[u8]) -> bool
     ensures { result ≡ true → bytes.now ≡ entries (sample_of number) 0 (length_of number) }
 {

@@ -67,6 +67,7 @@ impl Tuner {
     }
 
     // With one block more.
+    #[tactic(auto, using(crate::proofs::Following::due_more, crate::proofs::Following::run_more))]
     pub fn with(self, number: u16) -> Tuner
         ensures { (came : List ℕ) → Tunes came self → Tunes (came ++ (number ∷ [])) result }
     {

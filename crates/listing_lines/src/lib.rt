@@ -17,6 +17,7 @@ const NEWLINE: u8 = 10;
 
 // Writes a word and the byte behind it from an index on, and gives the index behind both. By an index, since the contract says which bytes stand in the lent
 // buffer and that all have room: of a buffer that is lent `write!` promises neither, and a part that is lent on does not come back.
+#[tactic(auto, using(lent::proofs::Written::written_append))]
 fn write_word(out: &mut [u8], at: usize, word: &[u8], behind: u8) -> usize
     requires { at + length word.now + 1 ≤ length out.old }
     ensures value { result ≡ at + length word.now + 1 }
@@ -29,6 +30,7 @@ fn write_word(out: &mut [u8], at: usize, word: &[u8], behind: u8) -> usize
 }
 
 // The same of a number, in decimal: at most 20 digits.
+#[tactic(auto, using(crate::proofs::Decimal::decimal_shown))]
 fn write_number(out: &mut [u8], at: usize, number: u64, behind: u8) -> usize
     requires { at + 21 ≤ length out.old }
     ensures value { (result ≡ at + length (decimal number) + 1) × (length (decimal number) ≤ 20) }
