@@ -4,12 +4,6 @@ use Rattle.link.proofs.Store.{mark_from}
 use Rattle.marks.proofs.Used.{seen_length, used_mark}
 use Rattle.marks.proofs.Ring.mark.Goals as goal
 
-pub mark_round-requires : goal.mark_round-requires
-mark_round-requires c =
-    let ring = c.self.inside in
-    let long = seen_length ring.buffer.now ring.start ring.used (omega (arith, c.self.invariant)) c.args.self.now c.self.view_is in
-    (omega (arith, c.self.invariant), omega (arith, long, c.self.invariant))
-
 pub returns : goal.returns
 returns c =
     let ring = c.self.inside in
