@@ -1,8 +1,7 @@
 -- Where division leaves nothing of the header and of the eight words the body is coded as it stands.
 use mathlib.Core.Path.{◌≡◌, refl, sym, ap, ap₂, ◌∙◌}
 use mathlib.Core.List.{List, ◌∷◌}
-use Prim.Native.Nat.{ℕ, zero, suc, ◌+◌, ◌≤◌}
-use native.Mathlib.Nat.{not-suc-le-zero, le_of_suc-le-suc}
+use Prim.Native.Nat.{ℕ, zero, suc, ◌+◌}
 use native.Mathlib.Omega.{arith}
 use lib.ListN.{length, take, drop, length-drop}
 use lib.Seq.{length-take-le}
@@ -16,11 +15,6 @@ use Rattle.reed_solomon.proofs.Interleaved.{eighth_length, codewords_true}
 use Rattle.reed_solomon.proofs.Remainders.{remainder_of_word}
 use Rattle.nearest.proofs.Nearness.{lengthened_long}
 use Rattle.repairing.specs.NearPart.{Coded}
-
-pub zeros_cut : (n m : ℕ) → n ≤ m → take n (zeros m) ≡ zeros n
-zeros_cut zero m h = refl
-zeros_cut (suc n) zero h = absurd (not-suc-le-zero h)
-zeros_cut (suc n) (suc m) h = ap (λ (l : List ℕ). 0 ∷ l) (zeros_cut n m (le_of_suc-le-suc h))
 
 eighth_zeros : (n k m : ℕ) → every_eighth n k (zeros m) ≡ zeros n
 unfolding every_eighth

@@ -1,15 +1,16 @@
 -- The places where two lists differ: counted one by one, in either order, by parts, and by tests that agree place by place.
 use mathlib.Core.Path.{◌≡◌, refl, sym, ap, ap₂, ◌∙◌}
-use mathlib.Core.Bool.{Bool, true, false, cond}
+use mathlib.Core.Bool.{Bool, true, false, cond, not}
 use mathlib.Core.List.{List, [], ◌∷◌, ◌++◌}
-use Prim.Native.Nat.{ℕ, suc, ◌+◌, ◌≤◌, ◌<◌}
+use Prim.Native.Nat.{ℕ, suc, ◌+◌, ◌<◌}
 use native.Mathlib.Nat.{suc_inj, suc-ne-zero, zero-add, add-zero, add_assoc, zero-lt-suc}
 use native.Mathlib.Numerals.{add-one}
 use native.Mathlib.Omega.{arith}
 use borrow.Author.Tests.{eqb-true, eqb-false, eq-eqb, ne_eqb}
 use lib.Dec.{eqb}
-use lib.ListN.{length, get_or, drop, drop_of_length-le}
+use lib.ListN.{length, get_or, drop}
 use lib.Seq.{drop-cons}
+use Rattle.std.specs.List.{count_by, fold, zip}
 use Rattle.nearest.specs.Near.{differences}
 
 -- 1 where two bytes differ, 0 where they are the same
@@ -71,8 +72,6 @@ differ_alike (x ∷ a) (y ∷ b) (z ∷ c) (w ∷ d) lb lc ld same =
     ap₂ (λ (t : Bool) (n : ℕ). cond t 0 1 + n) (same_test x y z w first.0 first.1)
     (differ_alike a b c d (suc_inj lb) (suc_inj lc) (suc_inj ld) (λ i h. same (suc i) (omega arith)))
 
--- ---- counted in a loop
-
 pub differ_turn : (a b : List ℕ) (i : ℕ) → i < length a → i < length b
     → differences (drop i a) (drop i b) ≡ differing (get_or a i 0) (get_or b i 0) + differences (drop (i + 1) a) (drop (i + 1) b)
 unfolding differences
@@ -80,19 +79,20 @@ differ_turn a b i ha hb =
     ap₂ differences (drop-cons a i 0 ha) (drop-cons b i 0 hb)
     ∙ ap (λ (n : ℕ). differing (get_or a i 0) (get_or b i 0) + differences (drop n a) (drop n b)) (sym (add-one i))
 
--- i places are counted: n of them differ, of t in all
-pub counted_same : (a b : List ℕ) (i n t : ℕ) → i < length a → i < length b → get_or a i 0 ≡ get_or b i 0
-    → n + differences (drop i a) (drop i b) ≡ t → n + differences (drop (i + 1) a) (drop (i + 1) b) ≡ t
-counted_same a b i n t ha hb e q =
-    let none : differing (get_or a i 0) (get_or b i 0) ≡ 0 = ap (λ (x : Bool). cond x 0 1) (eq-eqb (get_or a i 0) (get_or b i 0) e) in
-    omega (arith, differ_turn a b i ha hb, none, q)
+-- ---- counted pair by pair
 
-pub counted_more : (a b : List ℕ) (i n t : ℕ) → i < length a → i < length b → (get_or a i 0 ≡ get_or b i 0 → ⊥)
-    → n + differences (drop i a) (drop i b) ≡ t → n + 1 + differences (drop (i + 1) a) (drop (i + 1) b) ≡ t
-counted_more a b i n t ha hb ne q =
-    let one : differing (get_or a i 0) (get_or b i 0) ≡ 1 = ap (λ (x : Bool). cond x 0 1) (ne_eqb (get_or a i 0) (get_or b i 0) ne) in
-    omega (arith, differ_turn a b i ha hb, one, q)
+one_counted : (same : Bool) → ◌≡◌ {A = ℕ} (cond (not same) 1 0) (cond same 0 1)
+one_counted true = refl
+one_counted false = refl
 
-pub counted_all : (a b : List ℕ) (i n t : ℕ) → length a ≤ i → n + differences (drop i a) (drop i b) ≡ t → n ≡ t
+differing_pairs : (a b : List ℕ) (n : ℕ) → fold (λ (m : ℕ) (p : ℕ × ℕ). m + cond (not (eqb p.0 p.1)) 1 0) n (zip a b) ≡ n + differences a b
 unfolding differences
-counted_all a b i n t h e = sym (add-zero n) ∙ ap (λ (l : List ℕ). n + differences l (drop i b)) (sym (drop_of_length-le a h)) ∙ e
+differing_pairs [] [] n = sym (add-zero n)
+differing_pairs [] (y ∷ b) n = sym (add-zero n)
+differing_pairs (x ∷ a) [] n = sym (add-zero n)
+differing_pairs (x ∷ a) (y ∷ b) n =
+    differing_pairs a b (n + cond (not (eqb x y)) 1 0) ∙ ap (λ (m : ℕ). n + m + differences a b) (one_counted (eqb x y))
+    ∙ add_assoc n (differing x y) (differences a b)
+
+pub pairs_counted : (a b : List ℕ) → count_by (λ (p : ℕ × ℕ). not (eqb p.0 p.1)) (zip a b) ≡ differences a b
+pairs_counted a b = differing_pairs a b 0 ∙ zero-add (differences a b)

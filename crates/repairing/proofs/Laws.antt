@@ -1,5 +1,5 @@
 -- The call: how the numbers that `repair` goes by are the table's, its count that of the body and at most 72; and that what is shown then is what was repaired.
-use Rattle.std.specs.Prelude.{is_some}
+use Rattle.std.specs.Prelude.{is_some, Result, Ok, Err}
 use mathlib.Core.Path.{◌≡◌, refl, sym, ap, ap₂, ◌∙◌}
 use mathlib.Core.Bool.{Bool, true, false, cond, ◌&&◌}
 use mathlib.Core.List.{List, [], ◌∷◌}
@@ -9,8 +9,11 @@ use borrow.Author.Tests.{eqb-true, leb-true, le-leb}
 use lib.Dec.{eqb, leb, lit<}
 use lib.ListN.{length, take, drop, length-take}
 use Rattle.basics.proofs.Tests.{left_true, right_true}
-use Rattle.refusals.specs.Table.{Row, ◌unless◌, first_of}
-use Rattle.refusals.proofs.Table.{unless_passed, first_earlier, first_later, accepted}
+use Rattle.refusals.specs.declared.Refusal.{Refusal}
+use Rattle.refusals.specs.Numbers.{judged_by}
+use Rattle.refusals.specs.Table.{Row, ◌unless◌, first_of, by}
+use Rattle.refusals.proofs.Numbers.{answered, stands}
+use Rattle.refusals.proofs.Table.{unless_passed, first_earlier, first_later}
 use Rattle.lent.specs.Written.{written}
 use Rattle.lent.proofs.Written.{written_front}
 use Rattle.scrambler.specs.Scrambler.{taps_allowed, scrambled}
@@ -18,11 +21,14 @@ use Rattle.scrambler.proofs.Laws.{scrambled_length, scrambled_twice}
 use Rattle.nearest.specs.Near.{near_header, differences}
 use Rattle.repairing.specs.Body.{words_near, near_table, repaired_body}
 use Rattle.repairing.specs.Repairing.{repaired, wrong_bytes, repair_table, repair_refusal, RepairOutcome, shown_bytes}
-use Rattle.repairing.specs.declared.RepairAnswer.{RepairAnswer}
-use Rattle.repairing.specs.declared.RepairAnswer.TheVariants.{Repaired}
 use Rattle.repairing.proofs.Differences.{differ_same}
 use Rattle.repairing.proofs.Lengths.{body_length}
 use Rattle.repairing.proofs.Scrambled.{differ_scrambled}
+
+-- what is refused has a number
+refused_some : (number : ℕ) (refusal : Refusal) → Err refusal ≡ judged_by number → number ≡ 0 → ⊥
+unfolding by
+refused_some number refusal e z = let passes : ◌≡◌ {A = Result (Unit {0}) Refusal} (Err refusal) (Ok tt) = e ∙ ap judged_by z in absurd (cc)
 
 -- ---- the rows
 
@@ -54,18 +60,20 @@ module _ (taps : ℕ) (part scratch : List ℕ) where
   pub outer_passed : first_of (take 2 (repair_table taps part scratch)) ≡ 0 → Ready
   outer_passed e = (passed_two [] e).0
 
-  pub outer_first : (n : ℕ) → n ≡ first_of (take 2 (repair_table taps part scratch)) → (n ≡ 0 → ⊥) → n ≡ repair_refusal taps part scratch
+  -- what is refused by the two is refused by all
+  pub outer_judged : (refusal : Refusal) → Err refusal ≡ judged_by (first_of (take 2 (repair_table taps part scratch)))
+      → Err refusal ≡ judged_by (repair_refusal taps part scratch)
   unfolding repair_refusal
-  outer_first n e ne =
-      e ∙ sym (first_earlier (take 2 (repair_table taps part scratch)) (near_table (scrambled taps part)) (λ z. ne (e ∙ z)))
+  outer_judged refusal e =
+      e ∙ sym (ap judged_by (first_earlier (take 2 (repair_table taps part scratch)) (near_table (scrambled taps part)) (refused_some _ refusal e)))
 
   -- 8, 12 or none, of the body
   module _ (none : first_of (take 2 (repair_table taps part scratch)) ≡ 0) (body : List ℕ) (unscrambled : body ≡ scrambled taps part) where
-    pub inner_then : (n : ℕ) (header words : Bool) → n ≡ first_of (8 unless header ∷ 12 unless words ∷ []) → header ≡ is_some (near_header (take 32 body))
-        → words ≡ words_near (drop 32 body) → n ≡ repair_refusal taps part scratch
+    pub inner_is : (header words : Bool) → header ≡ is_some (near_header (take 32 body)) → words ≡ words_near (drop 32 body)
+        → first_of (8 unless header ∷ 12 unless words ∷ []) ≡ repair_refusal taps part scratch
     unfolding repair_refusal
-    inner_then n header words e h w =
-        e ∙ ap₂ (λ (x y : Bool). first_of (8 unless x ∷ 12 unless y ∷ [])) h w ∙ ap (λ (l : List ℕ). first_of (near_table l)) unscrambled
+    inner_is header words h w =
+        ap₂ (λ (x y : Bool). first_of (8 unless x ∷ 12 unless y ∷ [])) h w ∙ ap (λ (l : List ℕ). first_of (near_table l)) unscrambled
         ∙ sym (first_later (take 2 (repair_table taps part scratch)) (near_table (scrambled taps part)) refl none)
 
 -- ---- the count
@@ -90,7 +98,7 @@ repaired_part_length taps part long =
 
 -- ---- after a repair that is not refused, what is shown is what was repaired
 
-module _ (taps : ℕ) (part before : List ℕ) (r : RepairAnswer) (after : List ℕ) (outcome : RepairOutcome taps part before r after)
+module _ (taps : ℕ) (part before : List ℕ) (r : Result ℕ Refusal) (after : List ℕ) (outcome : RepairOutcome taps part before r after)
     (none : repair_refusal taps part before ≡ 0) where
   abbrev wrong : ℕ
   wrong = wrong_bytes taps part
@@ -104,11 +112,11 @@ module _ (taps : ℕ) (part before : List ℕ) (r : RepairAnswer) (after : List 
   whole_length : length whole ≡ 2072
   whole_length = repaired_part_length taps part ready.long
 
-  pub answer_is : r ≡ Repaired wrong
-  answer_is = outcome.answer ∙ sym (accepted 0 (repair_refusal taps part before) (Repaired wrong) _ (Repaired wrong) (sym none) refl refl)
+  pub answer_is : r ≡ Ok wrong
+  answer_is = outcome.answer ∙ sym (answered (repair_refusal taps part before) wrong wrong none refl)
 
   scratch_is : after ≡ cond (eqb wrong 0) before (written before 0 whole)
-  scratch_is = outcome.bytes ∙ sym (accepted 0 (repair_refusal taps part before) _ before _ (sym none) refl refl)
+  scratch_is = outcome.bytes ∙ sym (stands (repair_refusal taps part before) _ before _ none refl)
 
   shown_by : (t : Bool) → eqb wrong 0 ≡ t → cond (eqb wrong 0) part (cond (leb 2072 (length after)) (take 2072 after) []) ≡ whole
   unfolding wrong_bytes
@@ -123,4 +131,4 @@ module _ (taps : ℕ) (part before : List ℕ) (r : RepairAnswer) (after : List 
 
   pub repaired_shown : shown_bytes r part after ≡ whole
   unfolding shown_bytes
-  repaired_shown = ap (λ (x : RepairAnswer). shown_bytes x part after) answer_is ∙ shown_by (eqb wrong 0) refl
+  repaired_shown = ap (λ (x : Result ℕ Refusal). shown_bytes x part after) answer_is ∙ shown_by (eqb wrong 0) refl

@@ -15,8 +15,8 @@ use Rattle.scrambler.proofs.Laws.{scrambled_length, scrambled_twice}
 use Rattle.nearest.specs.Near.{near_header, differences}
 use Rattle.repairing.specs.Body.{words_near, near_table, repaired_body}
 use Rattle.repairing.specs.Repairing.{repaired, wrong_bytes, repair_refusal, RepairOutcome, shown_bytes}
-use Rattle.repairing.specs.declared.RepairAnswer.{RepairAnswer}
-use Rattle.repairing.specs.declared.RepairAnswer.TheVariants.{Repaired}
+use Rattle.refusals.specs.declared.Refusal.{Refusal}
+use Rattle.std.specs.Prelude.{Result, Ok}
 use Rattle.repairing.specs.NearPart.{Coded, NearPart}
 use Rattle.repairing.proofs.Coded.{near_itself, repaired_near, repaired_coded, sent_header_near, sent_words_near, sent_body}
 use Rattle.repairing.proofs.Scrambled.{scrambled_near}
@@ -82,11 +82,11 @@ module _ (taps : ℕ) (part sent scratch : List ℕ) (ready : Ready taps part sc
   unfolding repaired
   repaired_sent = ap (scrambled taps) (sent_body arrived (scrambled taps sent) arrived_length coded arrived_near) ∙ scrambled_twice taps sent
 
-  pub sent_shown : (r : RepairAnswer) (after : List ℕ) → RepairOutcome taps part scratch r after
-      → (r ≡ Repaired (differences part sent)) × (shown_bytes r part after ≡ sent)
+  pub sent_shown : (r : Result ℕ Refusal) (after : List ℕ) → RepairOutcome taps part scratch r after
+      → (r ≡ Ok (differences part sent)) × (shown_bytes r part after ≡ sent)
   unfolding wrong_bytes
   sent_shown r after outcome = (
-    answer_is taps part scratch r after outcome near_repaired ∙ ap (λ (l : List ℕ). Repaired (differences part l)) repaired_sent,
+    answer_is taps part scratch r after outcome near_repaired ∙ ap (λ (l : List ℕ). Ok (differences part l)) repaired_sent,
     repaired_shown taps part scratch r after outcome near_repaired ∙ repaired_sent,
   )
 

@@ -1,71 +1,75 @@
--- The numbers are the table's (`outer_first`, `inner_then`); the count is the body's (`count_is`), and the scratch goes by both.
-use native.Mathlib.Omega.{arith}
-use mathlib.Core.Bool.{cond}
-use mathlib.Core.Path.{sym, ap, ◌∙◌}
-use Rattle.basics.specs.Lists.{zeros}
-use lib.Dec.{eqb}
-use Rattle.refusals.specs.Table.{by}
+-- What is refused is refused by the table (`outer_judged`, `inner_is`); the count is the body's (`count_is`), and the scratch goes by both.
+use Rattle.std.proofs.Common.{◌≡◌, [], ◌∷◌, cond, eqb, Err, rules, sym, ap, ◌∙◌, arith, eq-eqb, ne_eqb}
+use Rattle.refusals.specs.Numbers.{judged_by}
+use Rattle.refusals.specs.Table.{◌unless◌, first_of}
+use Rattle.refusals.proofs.Numbers.{passed, refused, kept, answered, stands}
 use Rattle.lent.specs.Written.{written}
-use Rattle.lent.proofs.Written.{written_whole}
-use Rattle.refusals.proofs.Table.{refused, kept, accepted}
 use Rattle.scrambler.specs.Scrambler.{scrambled}
-use Rattle.repairing.specs.declared.RepairAnswer.TheVariants.{Repaired, Refused}
-use Rattle.repairing.proofs.Laws.{outer_first, outer_passed, inner_then, count_is, repaired_is}
+use Rattle.repairing.specs.Repairing.{repaired, repair_refusal, wrong_bytes}
+use Rattle.repairing.proofs.Laws.{Ready, outer_judged, outer_passed, inner_is, count_is, repaired_is}
 use Rattle.repairing.proofs.repair.Goals as goal
+use Rattle.repairing.proofs.repair.Goals.{In_ok-judge_outer, After-judge_near}
 
-pub returns-then-outer-ne0 : goal.returns-then-outer-ne0
-returns-then-outer-ne0 c =
-    let args = c.args in
-    let outer = c.outer_refusal-outer in
-    let e = outer_first args.taps args.part.now args.scratch.now outer.result outer.ensures c.if-outer-ne0.true in
-    record { answer = refused _ _ _ (λ n. Refused n) e c.if-outer-ne0.true; bytes = kept _ _ _ _ e c.if-outer-ne0.true }
+pub returns-in_err-judge_outer : goal.returns-in_err-judge_outer
+returns-in_err-judge_outer c =
+    let judged = outer_judged c.args.taps c.args.part.now c.args.scratch.now c.in_err-judge_outer.field-0.0 (sym c.in_err-judge_outer.was ∙ c.judge_outer.ensures) in
+    let same : c.from_residual.result ≡ Err c.in_err-judge_outer.field-0.0 = search rules in
+    record { answer = same ∙ refused _ _ _ _ judged; bytes = kept _ _ _ _ _ judged }
 
-pub write_at-requires : goal.write_at-requires
-write_at-requires c =
-    let args = c.args in
-    let none = sym c.outer_refusal-outer.ensures ∙ c.if-outer-ne0.false in
-    omega (arith, (outer_passed args.taps args.part.now args.scratch.now none).long)
+ready : (c : In_ok-judge_outer) → Ready c.args.taps c.args.part.now c.args.scratch.now
+ready c = outer_passed c.args.taps c.args.part.now c.args.scratch.now (passed _ _ _ (sym c.in_ok-judge_outer.was ∙ c.judge_outer.ensures))
 
-pub write_repaired-requires : goal.write_repaired-requires
-write_repaired-requires c =
-    let args = c.args in
-    let none = sym c.outer_refusal-outer.ensures ∙ c.if-outer-ne0.false in
-    (outer_passed args.taps args.part.now args.scratch.now none).room
+pub copy_from_slice-requires : goal.copy_from_slice-requires
+copy_from_slice-requires c = omega (arith, (ready (goal.at.copy_from_slice-requires c).In_ok-judge_outer).long)
 
-pub returns-then-inner-ne0 : goal.returns-then-inner-ne0
-returns-then-inner-ne0 c =
-    let args = c.args in
-    let part = args.part.now in
-    let scratch = args.scratch.now in
-    let outer = c.outer_refusal-outer in
-    let none = sym outer.ensures ∙ c.if-outer-ne0.false in
-    let ready = outer_passed args.taps part scratch none in
-    let body = c.scramble in
-    let is = body.ensures ∙ ap (scrambled args.taps) (c.write_at.ensures ∙ written_whole (zeros 2072) part ready.long) in
+-- what the judge of the body goes by, how many bytes were wrong, and what is written where some were
+record Repaired (c : After-judge_near) : Type 0 where
+  number : first_of (8 unless c.repair_body-near.result.header ∷ 12 unless c.repair_body-near.result.words ∷ [])
+      ≡ repair_refusal c.args.taps c.args.part.now c.args.scratch.now
+  wrong : c.repair_body-near.result.wrong ≡ wrong_bytes c.args.taps c.args.part.now
+  whole : scrambled c.args.taps c.repair_body-near.new.body ≡ repaired c.args.taps c.args.part.now
+
+after_body : (c : After-judge_near) → Repaired c
+after_body c =
+    let taps = c.args.taps in
+    let part = c.args.part.now in
+    let none = passed _ _ _ (sym c.in_ok-judge_outer.was ∙ c.judge_outer.ensures) in
+    let long = (outer_passed taps part c.args.scratch.now none).long in
+    let is = c.scramble.ensures ∙ ap (scrambled taps) c.copy_from_slice.ensures.after in
     let near = c.repair_body-near in
-    let inner = c.inner_refusal-inner in
-    let e = inner_then args.taps part scratch none _ is inner.result _ _ inner.ensures near.ensures.header near.ensures.words in
-    let wrong = near.ensures.count ∙ count_is args.taps part ready.long _ is in
-    let whole = repaired_is args.taps part ready.long _ is _ (ap (scrambled args.taps) near.ensures.bytes) in
-    let left = c.write_repaired.ensures
-    ∙ (λ j. by (e j) (cond (eqb (wrong j) 0) scratch (written scratch 0 (whole j))) scratch) in
-    record { answer = refused _ _ _ (λ n. Refused n) e c.if-inner-ne0.true; bytes = left }
+    record {
+      number = inner_is taps part c.args.scratch.now none _ is near.result.header near.result.words near.ensures.header near.ensures.words;
+      wrong = near.ensures.count ∙ count_is taps part long _ is;
+      whole = repaired_is taps part long _ is _ (ap (scrambled taps) near.ensures.bytes);
+    }
 
-pub returns : goal.returns
-returns c =
-    let args = c.args in
-    let part = args.part.now in
-    let scratch = args.scratch.now in
-    let outer = c.outer_refusal-outer in
-    let none = sym outer.ensures ∙ c.if-outer-ne0.false in
-    let ready = outer_passed args.taps part scratch none in
-    let body = c.scramble in
-    let is = body.ensures ∙ ap (scrambled args.taps) (c.write_at.ensures ∙ written_whole (zeros 2072) part ready.long) in
-    let near = c.repair_body-near in
-    let inner = c.inner_refusal-inner in
-    let e = inner_then args.taps part scratch none _ is inner.result _ _ inner.ensures near.ensures.header near.ensures.words in
-    let wrong = near.ensures.count ∙ count_is args.taps part ready.long _ is in
-    let whole = repaired_is args.taps part ready.long _ is _ (ap (scrambled args.taps) near.ensures.bytes) in
-    let left = c.write_repaired.ensures
-    ∙ (λ j. by (e j) (cond (eqb (wrong j) 0) scratch (written scratch 0 (whole j))) scratch) in
-    record { answer = accepted _ _ _ _ _ e c.if-inner-ne0.false (ap (λ n. Repaired n) wrong); bytes = left }
+pub returns-in_err-judge_near : goal.returns-in_err-judge_near
+returns-in_err-judge_near c =
+    let known = after_body (goal.at.returns-in_err-judge_near c).After-judge_near in
+    let judged = sym c.in_err-judge_near.was ∙ c.judge_near.ensures ∙ ap judged_by known.number in
+    let same : c.from_residual-in_err-judge_near.result ≡ Err c.in_err-judge_near.field-0.0 = search rules in
+    record { answer = same ∙ refused _ _ _ _ judged; bytes = kept _ _ _ _ _ judged }
+
+pub write_scrambled-requires : goal.write_scrambled-requires
+write_scrambled-requires c = (ready (goal.at.write_scrambled-requires c).In_ok-judge_outer).room
+
+pub returns-then-near-ne0 : goal.returns-then-near-ne0
+returns-then-near-ne0 c =
+    let known = after_body (goal.at.returns-then-near-ne0 c).After-judge_near in
+    let none = passed _ _ _ (sym c.in_ok-judge_near.was ∙ c.judge_near.ensures ∙ ap judged_by known.number) in
+    let written_whole = c.write_scrambled.ensures ∙ ap (written c.args.scratch.now 0) known.whole in
+    let some = ap (λ n. eqb n 0) (sym known.wrong) ∙ ne_eqb _ _ c.if-near-ne0.true in
+    record {
+      answer = answered _ _ _ none known.wrong;
+      bytes = stands _ _ _ _ none (written_whole ∙ sym (ap (λ b. cond b c.args.scratch.now (written c.args.scratch.now 0 (repaired c.args.taps c.args.part.now))) some));
+    }
+
+pub returns-else-near-ne0 : goal.returns-else-near-ne0
+returns-else-near-ne0 c =
+    let known = after_body (goal.at.returns-else-near-ne0 c).After-judge_near in
+    let none = passed _ _ _ (sym c.in_ok-judge_near.was ∙ c.judge_near.ensures ∙ ap judged_by known.number) in
+    let clean = ap (λ n. eqb n 0) (sym known.wrong) ∙ eq-eqb _ _ c.if-near-ne0.false in
+    record {
+      answer = answered _ _ _ none known.wrong;
+      bytes = stands _ _ _ _ none (sym (ap (λ b. cond b c.args.scratch.now (written c.args.scratch.now 0 (repaired c.args.taps c.args.part.now))) clean));
+    }

@@ -1,35 +1,19 @@
--- Place by place: those counted so far, and those that differ behind them, are all (`counted_same`, `counted_more`).
-use native.Mathlib.Omega.{arith}
-use mathlib.Core.Path.{ap, ◌∙◌}
-use Prim.Native.Nat.{◌+◌, ◌<◌}
-use lib.ListN.{length, drop}
-use Rattle.nearest.specs.Near.{differences}
-use Rattle.repairing.proofs.Differences.{counted_same, counted_more, counted_all}
-use borrow.Author.Rules.{rules}
+-- Those of the pairs that differ are counted (`pairs_counted`).
+use Rattle.std.proofs.Common.{ℕ, ◌∙◌, eqb, not, rules}
+use borrow.Author.Tests.{tests}
+use Rattle.std.proofs.lemmas.Iterator.{YieldsList-from_slice, YieldsList-from_zip}
+use Rattle.std.proofs.lemmas.Iterator.Consumers.{YieldsList-from_filter, count_from_yields_List}
+use Rattle.std.proofs.lemmas.List.Sums.{length-filter}
+use Rattle.std.specs.List.{zip}
+use Rattle.repairing.proofs.Differences.{pairs_counted}
 use Rattle.repairing.proofs.body.count_differences.Goals as goal
-use Rattle.repairing.proofs.body.count_differences.Goals.{then-a-i, else-a-i}
-
-pub loop-i-preserved : goal.loop-i-preserved
-loop-i-preserved c =
-    let loop = c.loop-i in
-    let args = c.args in
-    let a = args.a.now in
-    let b = args.b.now in
-    let in-a : loop.i < length a = omega (arith, loop.invariant) in
-    let in_b : loop.i < length b = omega (arith, loop.invariant) in
-    let behind = differences (drop (loop.i + 1) a) (drop (loop.i + 1) b) in (
-      search rules,
-      elim c.if-a-i.branch [ then-a-i w ↦ omega (arith, w.count-is, loop.invariant) | else-a-i w ↦ omega (arith, w.count-is, loop.invariant) ],
-      loop.invariant.2,
-      loop.invariant.3,
-      elim c.if-a-i.branch [
-        | then-a-i w ↦ ap (λ n. n + behind) w.count-is ∙ counted_more a b loop.i loop.count _ in-a in_b w.if-a-i.true loop.invariant.4
-        | else-a-i w ↦ ap (λ n. n + behind) w.count-is ∙ counted_same a b loop.i loop.count _ in-a in_b w.if-a-i.false loop.invariant.4
-      ],
-    )
 
 pub returns : goal.returns
 returns c =
-    let loop = c.loop-i in
-    let args = c.args in
-    counted_all args.a.now args.b.now loop.i loop.count _ (omega (arith, loop.invariant)) loop.invariant.4
+    let a = c.args.a.now in
+    let b = c.args.b.now in
+    let differ = λ (p : ℕ × ℕ). not (eqb p.0 p.1) in
+    let pairs = YieldsList-from_zip {s = c.filter.result.iter} (YieldsList-from_slice a cc) (YieldsList-from_slice b cc) in
+    let counted = count_from_yields_List c.filter.result c.count.result c.count.ensures.ran
+    (YieldsList-from_filter _ differ pairs c.filter.ensures.closure (λ x t q k. search (rules, tests))) in
+    counted ∙ length-filter differ (zip a b) ∙ pairs_counted a b

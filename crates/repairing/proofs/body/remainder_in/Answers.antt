@@ -1,26 +1,16 @@
--- Byte by byte: those before j are every eighth of the remainders from k on (`Filled`, `eighth_at`).
-use native.Mathlib.Omega.{arith}
-use mathlib.Core.Path.{sym}
-use lib.ListN.{length-set}
-use Rattle.basics.proofs.Fill.{filled_more, filled_all}
+-- Byte by byte: each is the next eighth of the remainders, from k on (`eighth_at`).
+use Rattle.std.proofs.Common.{◌≡◌, ℕ, ◌+◌, ◌*◌, get_or, sym, ◌∙◌, rules}
+use Rattle.basics.proofs.Fill.{filled_all}
 use Rattle.reed_solomon.specs.Payload.{every_eighth}
 use Rattle.reed_solomon.proofs.Interleaved.{eighth_at, eighth_length}
-use borrow.Author.Rules.{rules}
+use Rattle.nearest.proofs.FromFn.{made_each}
 use Rattle.repairing.proofs.body.remainder_in.Goals as goal
-
-pub loop-j-preserved : goal.loop-j-preserved
-loop-j-preserved c =
-    let loop = c.loop-j in
-    let args = c.args in (
-      search rules,
-      simp length-set loop.invariant.1,
-      filled_more (every_eighth 16 args.k args.remainders) loop.remainder loop.j _ loop.invariant.2 (omega arith)
-          (sym (eighth_at 16 args.k args.remainders loop.j (omega arith))),
-    )
 
 pub returns : goal.returns
 returns c =
-    let loop = c.loop-j in
-    let args = c.args in
-    filled_all (every_eighth 16 args.k args.remainders) loop.remainder 16 (λ k h. loop.invariant.2 k (omega arith)) loop.invariant.1
-    (eighth_length 16 args.k args.remainders)
+    let k = c.args.k in
+    let remainders = c.args.remainders in
+    let P : ℕ → ℕ → Type 0 = λ j byte. byte ≡ get_or remainders (k + 8 * j) 0 in
+    filled_all (every_eighth 16 k remainders) c.from_fn.result 16
+    (λ j h. made_each _ P _ 16 (λ i b f l call. search rules) c.from_fn.result c.from_fn.ensures.items j 0 h ∙ sym (eighth_at 16 k remainders j h))
+    c.from_fn.ensures.items.long (eighth_length 16 k remainders)

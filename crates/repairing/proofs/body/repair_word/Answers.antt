@@ -1,7 +1,7 @@
 -- A word of which division leaves nothing is near itself (`clean`), so that the payload stays (`with_own`); another is gathered, searched and written back.
 use mathlib.Core.Path.{◌≡◌, sym, ap, ◌∙◌, subst}
 use mathlib.Core.List.{List}
-use Rattle.std.specs.Prelude.{Some, is_some}
+use Rattle.std.specs.Prelude.{Some, None, is_some}
 use Prim.Native.Nat.{ℕ}
 use lib.ListN.{length}
 use Rattle.basics.specs.Lists.{zeros, Bytes}
@@ -36,23 +36,28 @@ returns-then-are_zeros c =
     let near = near-own payload k given.args.remainder bytes given.requires.2 (same_true _ _ (sym c.are_zeros.ensures ∙ c.if-are_zeros.true)) in
     (sym (ap is_some near), sym (with_own k payload given.requires.0 given.requires.1 (ap (λ o. or_own o own) near)))
 
-pub repair_word-near-requires : goal.repair_word-near-requires
-repair_word-near-requires c =
-    let given = c in
-    let payload = given.args.payload.now in
+pub repair_word-requires : goal.repair_word-requires
+repair_word-requires c =
+    let payload = c.args.payload.now in
     let bytes = bytes_each payload (λ i. search rules) in (
-      subst Bytes (sym c.gathered-own.ensures) (eighth_bytes 255 given.args.k payload bytes),
-      given.requires.2 ∙ ap remainder_of (sym c.gathered-own.ensures),
+      subst Bytes (sym c.gathered-own.ensures) (eighth_bytes 255 c.args.k payload bytes),
+      c.requires.2 ∙ ap remainder_of (sym c.gathered-own.ensures),
     )
 
+pub returns-in_default : goal.returns-in_default
+unfolding repaired_word
+returns-in_default c =
+    let payload = c.args.payload.now in
+    let k = c.args.k in
+    let own = every_eighth 255 k payload in
+    let none : near_word own ≡ None = ap near_word (sym c.gathered-own.ensures) ∙ sym c.repair_word.ensures ∙ c.in_default.is in
+    (sym (ap is_some none), sym (with_own k payload c.requires.0 c.requires.1 (ap (λ o. or_own o own) none)))
+
 pub returns : goal.returns
-unfolding with_word
+unfolding with_word repaired_word
 returns c =
-    let given = c in
-    let payload = given.args.payload.now in
-    let k = given.args.k in
-    let near = c.repair_word-near in
-    let own = c.gathered-own.ensures in (
-      near.ensures.0 ∙ ap (λ w. is_some (near_word w)) own,
-      c.write_word.ensures ∙ ap (λ w. spread w k payload) (near.ensures.1 ∙ ap repaired_word own),
-    )
+    let payload = c.args.payload.now in
+    let k = c.args.k in
+    let own = every_eighth 255 k payload in
+    let near : near_word own ≡ Some c.in-Some.word = ap near_word (sym c.gathered-own.ensures) ∙ sym c.repair_word.ensures ∙ c.in-Some.is in
+    (sym (ap is_some near), c.write_word.ensures ∙ ap (λ w. spread w k payload) (sym (ap (λ o. or_own o own) near)))

@@ -13,14 +13,11 @@ use Rattle.nearest.specs.Near.{near_word}
 use Rattle.repairing.specs.Body.{words_near}
 use Rattle.repairing.specs.Words.{with_word}
 use Rattle.repairing.proofs.Words.{with_words, words_none, words_more, words_length, word_kept, all_words, all_found, all_missed}
-use borrow.Author.Rules.{rules}
 use Rattle.repairing.proofs.body.repair_words.Goals as goal
 use Rattle.repairing.proofs.body.repair_words.Goals.{then-not-found, else-not-found}
 
 pub loop-k-init : goal.loop-k-init
-loop-k-init c =
-    let given = c in
-    (search rules, given.requires.0, given.requires.1, sym (words_none given.args.payload.now), refl)
+loop-k-init c = (sym (words_none c.args.payload.now), refl)
 
 pub repair_word-found-requires : goal.repair_word-found-requires
 repair_word-found-requires c =
@@ -28,9 +25,9 @@ repair_word-found-requires c =
     let payload = c.args.payload.now in
     let low : loop.k < 8 = omega arith in (
       low,
-      ap length loop.invariant.3 ∙ words_length loop.k payload ∙ loop.invariant.1,
-      c.remainder_in-remainder.ensures ∙ ap (every_eighth 16 loop.k) loop.invariant.2 ∙ remainder_of_word payload loop.k low
-          ∙ sym (ap (λ l. remainder_of (every_eighth 255 loop.k l)) loop.invariant.3 ∙ ap remainder_of (word_kept loop.k payload low)),
+      ap length loop.invariant.0 ∙ words_length loop.k payload ∙ c.requires.0,
+      c.remainder_in.ensures ∙ ap (every_eighth 16 loop.k) c.requires.1 ∙ remainder_of_word payload loop.k low
+          ∙ sym (ap (λ l. remainder_of (every_eighth 255 loop.k l)) loop.invariant.0 ∙ ap remainder_of (word_kept loop.k payload low)),
     )
 
 pub loop-k-preserved : goal.loop-k-preserved
@@ -41,15 +38,12 @@ loop-k-preserved c =
     let near : ℕ → Bool = λ k. is_some (near_word (every_eighth 255 k payload)) in
     let low : loop.k < 8 = omega arith in
     let found : repaired.result ≡ near loop.k =
-    repaired.ensures.0 ∙ ap (λ l. is_some (near_word (every_eighth 255 loop.k l))) loop.invariant.3
+    repaired.ensures.0 ∙ ap (λ l. is_some (near_word (every_eighth 255 loop.k l))) loop.invariant.0
     ∙ ap (λ w. is_some (near_word w)) (word_kept loop.k payload low) in (
-      search rules,
-      loop.invariant.1,
-      loop.invariant.2,
-      repaired.ensures.1 ∙ ap (with_word loop.k) loop.invariant.3 ∙ words_more loop.k payload,
+      repaired.ensures.1 ∙ ap (with_word loop.k) loop.invariant.0 ∙ words_more loop.k payload,
       elim c.if-not-found.branch [
         | then-not-found w ↦ w.all-is ∙ all_missed near loop.k repaired.result w.if-not-found.true found
-        | else-not-found w ↦ w.all-is ∙ all_found near loop.k repaired.result loop.all w.if-not-found.false found loop.invariant.4
+        | else-not-found w ↦ w.all-is ∙ all_found near loop.k repaired.result loop.all w.if-not-found.false found loop.invariant.1
       ],
     )
 
@@ -59,6 +53,6 @@ returns c =
     let loop = c.loop-k in
     let payload = c.args.payload.now in
     let all : loop.k ≡ 8 = omega arith in (
-      loop.invariant.4 ∙ ap (λ n. all_below n (λ k. is_some (near_word (every_eighth 255 k payload)))) all,
-      loop.invariant.3 ∙ ap (λ n. with_words n payload) all ∙ all_words payload loop.invariant.1,
+      loop.invariant.1 ∙ ap (λ n. all_below n (λ k. is_some (near_word (every_eighth 255 k payload)))) all,
+      loop.invariant.0 ∙ ap (λ n. with_words n payload) all ∙ all_words payload c.requires.0,
     )
