@@ -68,11 +68,11 @@ pub extern "C" fn part_repair_word(word: &mut [u8], remainder: &[u8]) -> u8
     own.copy_from_slice(word);
     let mut left = [0u8; 16];
     left.copy_from_slice(remainder);
-    let near = nearest::repair_word(own, left);
-    if let Some(repaired) = near {
-        word.copy_from_slice(&repaired);
-    }
-    u8::from(near.is_some())
+    let Some(repaired) = nearest::repair_word(own, left) else {
+        return 0;
+    };
+    word.copy_from_slice(&repaired);
+    1
 }
 
 // DATA, frame 0, and nothing else to tell.

@@ -1,9 +1,6 @@
 -- The area is the whole of what was lent, of 1,908 bytes.
-use Rattle.std.proofs.Common.{◌≡◌, rules, ap, ◌∙◌, length, eq-eqb, le-leb}
+use Rattle.std.proofs.Common.{◌≡◌, rules, length, eq-eqb, le-leb}
 use Rattle.std.proofs.lemmas.Bool.{lt-leb}
-use Rattle.lent.specs.Written.{written}
-use Rattle.frame.specs.Frame.{frame_bytes}
-use Rattle.parts.specs.Parts.{plain_header}
 use Rattle.parts.proofs.part_build.Goals as goal
 
 pub returns-then-out-lt-FRAME_SIZE : goal.returns-then-out-lt-FRAME_SIZE

@@ -1,33 +1,27 @@
--- Word and remainder fill the arrays that they are copied to (`written_whole`); the word that `nearest::repair_word` gives fills the lent one.
+-- The copies are the word and what was left of it, so that the search answers of the word; what it finds fills the lent one, and otherwise the word stays.
+use Rattle.std.proofs.Common.{◌≡◌, Some, None, sym, ap, subst, ◌∙◌}
 use Rattle.std.specs.Prelude.{is_some}
-use Rattle.std.proofs.Common.{◌≡◌, ℕ, List, length, sym, ap, subst, ◌∙◌}
-use Rattle.basics.specs.Lists.{Bytes, zeros}
-use Rattle.basics.proofs.Lists.{zeros_length}
-use Rattle.lent.specs.Written.{written}
-use Rattle.lent.proofs.Written.{written_whole}
+use Rattle.basics.specs.Lists.{Bytes}
 use Rattle.reed_solomon.specs.Code.{remainder_of}
-use Rattle.nearest.specs.Near.{near_word, repaired_word}
+use Rattle.nearest.specs.Near.{near_word, or_own, repaired_word}
 use Rattle.header.specs.Header.{flag_bit}
-use borrow.Author.Rules.{rules}
 use Rattle.parts.proofs.part_repair_word.Goals as goal
 
-filled : (n : ℕ) (bytes : List ℕ) → length bytes ≡ n → written (zeros n) 0 bytes ≡ bytes
-filled n bytes long = written_whole (zeros n) bytes (long ∙ sym (zeros_length n))
+pub repair_word-requires : goal.repair_word-requires
+repair_word-requires c =
+    let own = sym c.copy_from_slice.ensures.after in
+    (subst Bytes own c.requires.1, c.copy_from_slice-2.ensures.after ∙ c.requires.3 ∙ ap remainder_of own)
 
-pub repair_word-near-requires : goal.repair_word-near-requires
-repair_word-near-requires c =
-    let own = c.write_at.ensures ∙ filled 255 c.args.word.now c.requires.0 in
-    let left = c.write_at-2.ensures ∙ filled 16 c.args.remainder.now c.requires.2 in
-    (subst Bytes (sym own) c.requires.1, left ∙ c.requires.3 ∙ ap remainder_of (sym own))
-
-pub returns-clause-value : goal.returns-clause-value
-returns-clause-value c =
-    let own = c.write_at.ensures ∙ filled 255 c.args.word.now c.requires.0 in
-    c.bit_of.ensures.value ∙ ap flag_bit (c.repair_word-near.ensures.0 ∙ ap (λ w. is_some (near_word w)) own)
-
-pub returns-clause-bytes : goal.returns-clause-bytes
-returns-clause-bytes c =
+pub returns-in_default : goal.returns-in_default
+unfolding repaired_word
+returns-in_default c =
     let word = c.args.word.now in
-    let own = c.write_at.ensures ∙ filled 255 word c.requires.0 in
-    let long : length c.repair_word-near.result.word ≡ length word = search rules in
-    c.write_at-3.ensures ∙ written_whole word c.repair_word-near.result.word long ∙ c.repair_word-near.ensures.1 ∙ ap repaired_word own
+    let none : near_word word ≡ None = ap near_word (sym c.copy_from_slice.ensures.after) ∙ sym c.repair_word.ensures ∙ c.in_default.is in
+    record { value = sym (ap (λ o. flag_bit (is_some o)) none); bytes = sym (ap (λ o. or_own o word) none) }
+
+pub returns : goal.returns
+unfolding repaired_word
+returns c =
+    let word = c.args.word.now in
+    let near : near_word word ≡ Some c.in-Some.repaired = ap near_word (sym c.copy_from_slice.ensures.after) ∙ sym c.repair_word.ensures ∙ c.in-Some.is in
+    record { value = sym (ap (λ o. flag_bit (is_some o)) near); bytes = c.copy_from_slice-3.ensures.after ∙ sym (ap (λ o. or_own o word) near) }
