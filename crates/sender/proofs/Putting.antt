@@ -2,7 +2,7 @@
 use mathlib.Core.Path.{◌≡◌, refl, sym, ap, ◌∙◌}
 use mathlib.Core.Bool.{Bool, true, false, false≢true, ◌||◌}
 use mathlib.Core.Logic.{◌⊎◌, inl, inr, ⊎_elim}
-use mathlib.Core.List.{List, [], ◌∷◌, ◌++◌}
+use mathlib.Core.List.{List, [], ◌++◌}
 use Prim.Native.Nat.{ℕ, ◌+◌, ◌%◌, ◌≤◌, ◌<◌}
 use native.Mathlib.Omega.{arith}
 use lib.Dec.{eqb}
@@ -11,9 +11,9 @@ use borrow.Author.Tests.{eqb-true, eqb-false, ltb-false}
 use Rattle.basics.specs.Lists.{Bytes}
 use Rattle.basics.specs.Numbers.{above}
 use Rattle.basics.proofs.Lists.{bytes_take}
-use Rattle.std.specs.Prelude.{Result, Ok, Err}
+use Rattle.std.specs.Prelude.{Result, Ok}
 use Rattle.refusals.specs.Numbers.{answer_by, judged_by}
-use Rattle.refusals.specs.Table.{Row, ◌when◌, first_of}
+use Rattle.refusals.specs.Table.{◌when◌}
 use Rattle.refusals.specs.declared.Refusal.{Refusal}
 use Rattle.refusals.proofs.Numbers.{passed, answered}
 use Rattle.lent.specs.Written.{written}
@@ -31,8 +31,6 @@ use Rattle.marks.specs.Queue.{used_in, is_ring_whole}
 use Rattle.marks.proofs.Used.{ring_passed}
 use Rattle.sender.specs.declared.Sender.{Sender}
 use Rattle.sender.specs.Put.{put_refusal, put_sender, put_bytes, PutOutcome}
-use Rattle.sender.specs.Waiting.{waiting_refusal}
-use Rattle.sender.proofs.Judging.{ring_refused, ring_taken}
 use Rattle.sender.proofs.Stands.{Stands}
 
 pub record PutPassed (queue : List ℕ) (start used : ℕ) (packet : List ℕ) : Type 0 where
@@ -63,25 +61,10 @@ put_passed queue start used packet e =
       room = ltb-false 32768 (used + 2 + n) room.0;
     }
 
--- ---- what the judge of `put` answers
-
--- where the ring is not refused the packet decides
-abbrev own_rows : ℕ → List ℕ → List Row
-own_rows used packet = 4 when (eqb (length packet) 0 || above (length packet) 9000) ∷ 5 when above (used + 2 + length packet) 32768 ∷ []
-
-module _ (queue : List ℕ) (start used : ℕ) (packet : List ℕ) where
-  pub ring_first : {refusal : Refusal} → Err refusal ≡ judged_by (waiting_refusal queue start used)
-      → Err refusal ≡ judged_by (put_refusal queue start used packet)
-  unfolding put_refusal
-  ring_first e = ring_refused queue start used (own_rows used packet) e
-
-  pub packet_then : {given : Unit {0}} → Ok given ≡ judged_by (waiting_refusal queue start used)
-      → put_refusal queue start used packet ≡ first_of (own_rows used packet)
-  unfolding put_refusal
-  packet_then e = ring_taken queue start used (own_rows used packet) e
-
-  pub put_judged : {given : Unit {0}} → Ok given ≡ judged_by (put_refusal queue start used packet) → PutPassed queue start used packet
-  put_judged e = put_passed queue start used packet (passed _ _ _ e)
+-- as the judge answers it
+pub put_judged : {queue : List ℕ} {start used : ℕ} {packet : List ℕ} {given : Unit {0}} → Ok given ≡ judged_by (put_refusal queue start used packet)
+    → PutPassed queue start used packet
+put_judged {queue} {start} {used} {packet} e = put_passed queue start used packet (passed _ _ _ e)
 
 -- the mark is written, then the packet
 pub put_written : {queue : List ℕ} {start used : ℕ} {packet : List ℕ} → PutPassed queue start used packet

@@ -49,6 +49,7 @@ impl Sender {
 }
 
 // Refusals: 2, 3, 4, 5.
+#[tactic(auto, using(crate::proofs::Judging::ring_judged), unfolding(crate::specs::Put::put_refusal, crate::specs::Waiting::waiting_refusal, refusals::specs::Table::first_of, refusals::specs::Table::by, refusals::specs::Numbers::refusal_of))]
 fn judge_put(queue: &[u8], sender: Sender, packet: &[u8]) -> Result<(), Refusal>
     ensures { result ≡ judged_by (put_refusal queue.now sender.start sender.used packet.now) }
 {
@@ -63,7 +64,7 @@ fn judge_put(queue: &[u8], sender: Sender, packet: &[u8]) -> Result<(), Refusal>
 }
 
 // Puts a packet behind those that wait, and touches nothing else. Refusals: 2, 3, 4, 5.
-#[tactic(auto, using(crate::proofs::Putting::put_judged))]
+#[tactic(auto, using(crate::proofs::Putting::put_judged), unfolding(refusals::specs::Table::by))]
 pub fn put(queue: &mut [u8], sender: Sender, packet: &[u8]) -> Result<Sender, Refusal>
     ensures { PutOutcome queue.old sender packet.now result queue.new }
 {
@@ -86,7 +87,7 @@ pub struct Counted {
 }
 
 // How much waits in the ring. Two bytes of what is used are each packet's mark. Refusals: 2, 3.
-#[tactic(auto, using(crate::proofs::Judging::ring_judged, marks::proofs::Counting::used_counted))]
+#[tactic(auto, using(crate::proofs::Judging::ring_judged, marks::proofs::Counting::used_counted), unfolding(crate::specs::Waiting::waiting_answer, refusals::specs::Table::by))]
 pub fn waiting(queue: &[u8], sender: Sender) -> Result<Counted, Refusal>
     ensures { WaitingOutcome queue.now sender result }
 {

@@ -1,24 +1,21 @@
 -- What a frame that is not refused may lean on, how filling and freeing meet the contract of `next_frame`, and that any two of its outcomes are equal.
 use mathlib.Core.Path.{◌≡◌, refl, sym, ap, subst, ◌∙◌}
-use mathlib.Core.Bool.{true, cond, ◌&&◌, and-true}
+use mathlib.Core.Bool.{true, cond, ◌&&◌}
 use mathlib.Core.Option.{Option, none, some}
 use mathlib.Core.List.{List, [], ◌∷◌, ◌++◌}
 use Prim.Native.Nat.{ℕ, ◌≤◌, ◌<◌}
 use native.Mathlib.Omega.{arith}
 use lib.Dec.{eqb, leb}
 use lib.ListN.{length, drop}
-use borrow.Author.Tests.{eqb-true, leb-true, eq-eqb, ne_eqb, le-leb}
+use borrow.Author.Tests.{eqb-true, leb-true, eq-eqb, ne_eqb}
 use Rattle.basics.specs.Lists.{Bytes}
 use Rattle.basics.proofs.Lists.{bytes_take}
 use Rattle.basics.proofs.Tests.{left_true, right_true}
-use Rattle.std.specs.Prelude.{Result, Ok, Err}
+use Rattle.std.specs.Prelude.{Result, Ok}
 use Rattle.refusals.specs.Numbers.{answer_by, judged_by}
-use Rattle.refusals.specs.Table.{Row, ◌unless◌, first_of}
 use Rattle.refusals.specs.declared.Refusal.{Refusal}
 use Rattle.refusals.proofs.Numbers.{passed, answered}
 use Rattle.refusals.proofs.Table.{unless_passed}
-use Rattle.sender.specs.Waiting.{waiting_table, waiting_refusal}
-use Rattle.sender.proofs.Judging.{ring_refused, ring_taken}
 use Rattle.link.specs.Link.{Packet, Queue}
 use Rattle.link.specs.Store.{layout_rest, layout_packets, layout}
 use Rattle.link.specs.Parsing.{is_whole}
@@ -68,28 +65,10 @@ next_passed taps fields start used queue out e =
       fits = fits.0;
     }
 
--- ---- what the judge answers
-
--- what is judged behind the ring
-abbrev later_rows : Fields → List Row
-later_rows fields = 6 unless fields_fit fields ∷ []
-
-module _ (taps : ℕ) (fields : Fields) (start used : ℕ) (queue out : List ℕ) where
-  pub next_judged : {given : Unit {0}} → Ok given ≡ judged_by (next_refusal taps fields start used queue out) → NextPassed taps fields start used queue out
-  next_judged e = next_passed taps fields start used queue out (passed _ _ _ e)
-
-  module _ (allowed : taps_allowed taps ≡ true) (room : 2081 ≤ length out) where
-    by_ring : next_refusal taps fields start used queue out ≡ first_of (waiting_table queue start used ++ later_rows fields)
-    unfolding next_refusal first_of
-    by_ring = simp (allowed, le-leb 2081 (length out) room, and-true)
-
-    pub ring_first : {refusal : Refusal} → Err refusal ≡ judged_by (waiting_refusal queue start used)
-        → Err refusal ≡ judged_by (next_refusal taps fields start used queue out)
-    ring_first e = ring_refused queue start used (later_rows fields) e ∙ ap judged_by (sym by_ring)
-
-    pub fields_then : {given : Unit {0}} → Ok given ≡ judged_by (waiting_refusal queue start used)
-        → next_refusal taps fields start used queue out ≡ first_of (later_rows fields)
-    fields_then e = by_ring ∙ ring_taken queue start used (later_rows fields) e
+-- as the judge answers it
+pub next_judged : {taps : ℕ} {fields : Fields} {start used : ℕ} {queue out : List ℕ} {given : Unit {0}}
+    → Ok given ≡ judged_by (next_refusal taps fields start used queue out) → NextPassed taps fields start used queue out
+next_judged {taps} {fields} {start} {used} {queue} {out} e = next_passed taps fields start used queue out (passed _ _ _ e)
 
 -- ---- from what filling did to the contract
 

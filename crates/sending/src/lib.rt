@@ -19,6 +19,7 @@ pub struct Sent {
 }
 
 // Refusals: 1, 2, 3, 6.
+#[tactic(auto, unfolding(crate::specs::Next::next_refusal, sender::specs::Waiting::waiting_refusal, refusals::specs::Table::first_of, refusals::specs::Table::by, refusals::specs::Numbers::refusal_of))]
 fn judge(taps: u32, fields: Fields, sender: Sender, queue: &[u8], out: &[u8]) -> Result<(), Refusal>
     ensures { result ≡ judged_by (next_refusal taps fields sender.start sender.used queue.now out.now) }
 {
@@ -47,7 +48,7 @@ fn kind_for(used: usize) -> FrameKind
 }
 
 // Builds the next frame at the front of out, and takes what it carries off the ring. TXFN steps for every type. Refusals: 1, 2, 3, 6.
-#[tactic(auto, using(crate::proofs::Sending::next_judged))]
+#[tactic(auto, using(crate::proofs::Sending::next_judged), unfolding(refusals::specs::Table::by))]
 pub fn next_frame(
     taps: u32,
     fields: Fields,

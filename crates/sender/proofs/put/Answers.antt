@@ -1,15 +1,9 @@
--- A refusal leaves the ring; otherwise mark and packet are written one behind the other (`put_written`).
-use Rattle.std.proofs.Common.{◌≡◌, Err, rules, refl, sym, ap, ◌∙◌, List, ℕ, ◌+◌}
-use Rattle.refusals.proofs.Numbers.{passed, refused, kept, answered, stands}
+-- Mark and packet are written one behind the other (`put_written`).
+use Rattle.std.proofs.Common.{refl, sym, ap, ◌∙◌, List, ℕ, ◌+◌}
+use Rattle.refusals.proofs.Numbers.{passed, answered, stands}
 use Rattle.ring.specs.Ring.{ring_written}
 use Rattle.sender.proofs.Putting.{put_judged, put_written}
 use Rattle.sender.proofs.put.Goals as goal
-
-pub returns-in_err-judge_put : goal.returns-in_err-judge_put
-returns-in_err-judge_put c =
-    let judged = sym c.in_err-judge_put.was ∙ c.judge_put.ensures in
-    let same : c.from_residual.result ≡ Err c.in_err-judge_put.field-0.0 = search rules in
-    record { answer = same ∙ refused _ _ _ _ judged; bytes = kept _ _ _ _ _ judged }
 
 pub returns : goal.returns
 returns c =
@@ -23,5 +17,5 @@ returns c =
       answer = answered _ _ _ none refl;
       bytes = stands _ _ _ _ none
           (c.write_at-2.ensures ∙ ap (λ (l : List ℕ). ring_written l start (used + 2) given.packet.now) mark
-          ∙ put_written (put_judged _ _ _ _ judged));
+          ∙ put_written (put_judged judged));
     }

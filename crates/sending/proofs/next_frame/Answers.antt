@@ -1,23 +1,17 @@
--- A refusal leaves both buffers; otherwise filling, freeing and building meet the three parts of the outcome, by the laws of Sending.antt.
-use Rattle.std.proofs.Common.{◌≡◌, Err, sym, ap₂, ◌∙◌, List, ℕ, rules}
+-- Filling, freeing and building meet the three parts of the outcome, by the laws of Sending.antt.
+use Rattle.std.proofs.Common.{sym, ap₂, ◌∙◌, List, ℕ, rules}
 use Rattle.basics.proofs.Lists.{bytes_each}
 use Rattle.lent.specs.Written.{written}
-use Rattle.refusals.proofs.Numbers.{passed, refused, kept, answered, stands}
+use Rattle.refusals.proofs.Numbers.{passed, answered, stands}
 use Rattle.header.specs.declared.FrameKind.{FrameKind}
 use Rattle.header.specs.declared.Header.{Header}
 use Rattle.frame.specs.Frame.{frame_bytes}
 use Rattle.sending.proofs.Sending.{next_judged, kind_is, stop_within, freed_is, sent_path}
 use Rattle.sending.proofs.next_frame.Goals as goal
 
-pub returns-in_err-judge : goal.returns-in_err-judge
-returns-in_err-judge c =
-    let judged = sym c.in_err-judge.was ∙ c.judge.ensures in
-    let same : c.from_residual.result ≡ Err c.in_err-judge.field-0.0 = search rules in
-    record { answer = same ∙ refused _ _ _ _ judged; bytes = kept _ _ _ _ _ judged; frame = kept _ _ _ _ _ judged }
-
 pub free_front-left-requires : goal.free_front-left-requires
 free_front-left-requires c =
-    let p = next_judged _ _ _ _ _ c.args.out.now (sym c.in_ok-judge.was ∙ c.judge.ensures) in
+    let p = next_judged {out = c.args.out.now} (sym c.in_ok-judge.was ∙ c.judge.ensures) in
     (p.long, p.within, p.most, stop_within c.args.sender p c.fill-filled.ensures, c.fill-filled.ensures.cut)
 
 pub returns : goal.returns
@@ -25,7 +19,7 @@ returns c =
     let given = c.args in
     let judged = sym c.in_ok-judge.was ∙ c.judge.ensures in
     let none = passed _ _ _ judged in
-    let p = next_judged _ _ _ _ _ given.out.now judged in
+    let p = next_judged {out = given.out.now} judged in
     let kind = c.kind_for.ensures ∙ kind_is given.sender p (bytes_each given.queue.now (λ i. search rules)) in
     let freed = freed_is given.sender p c.fill-filled.ensures c.free_front-left.ensures in
     let header : FrameKind → Header = λ k. record { txfn = given.sender.next; kind = k; fields = given.fields } in
