@@ -14,9 +14,10 @@ pub fn level(body: &[u8]) -> Outcome {
 
 // The fields of a header and the bytes lent; the refusal's number, and the bytes lent after the call.
 pub fn coded(body: &mut [u8]) -> Outcome {
-    let (header, behind) = fields::header(body)?;
-    let length = behind.len().checked_sub(1).ok_or(Malformed)? / 2;
-    let (bytes, expected) = body[24..].split_at_mut(length);
+    let (header, _) = fields::header(body)?;
+    let (_, rest) = body.split_first_chunk_mut::<24>().ok_or(Malformed)?;
+    let length = rest.len().checked_sub(1).ok_or(Malformed)? / 2;
+    let (bytes, expected) = rest.split_at_mut(length);
     let number = FlatCode::from(header::code_header(header, bytes)).refusal;
     let (&expected_number, expected_bytes) = expected.split_first().ok_or(Malformed)?;
     outcome::both(

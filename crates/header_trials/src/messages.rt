@@ -9,7 +9,7 @@ const RESERVED: u8 = 7;
 const ABSENT: u8 = 8;
 
 // No `FlatMessage`, whose first number is an opcode: here it is a kind.
-#[derive(Clone, Copy, Default)]
+#[derive(Clone, Copy)]
 pub struct Message {
     pub kind: u8,
     pub numbers: [u16; 3],
