@@ -17,7 +17,8 @@ use Rattle.fast_channel.specs.declared.Lock.TheVariants.{NotLocked, Locked}
 use Rattle.fast_channel.proofs.Channel.{lock_back}
 use Rattle.header.specs.Header.{flag_bit, kind_number, header_fits}
 use Rattle.header.specs.declared.Header.{Header}
-use Rattle.header_reading.proofs.Bits.{bit_back, bit_le, kind_back, kind_le}
+use Rattle.header.proofs.Bytes.{bit_le, kind_le}
+use Rattle.header_reading.proofs.Bits.{bit_back, kind_back}
 use Rattle.header_reading.proofs.Sent.{sendable}
 use Rattle.counts.specs.declared.Txfn.{Txfn}
 use Rattle.receiver.specs.declared.Receiver.{Receiver}

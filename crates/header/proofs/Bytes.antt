@@ -16,18 +16,18 @@ use Rattle.header.specs.declared.FrameKind.{FrameKind}
 use Rattle.header.specs.declared.FrameKind.TheVariants.{Idle, Data, Type2, Type3}
 use Rattle.header.specs.declared.Header.{Header}
 
-flag_most : (flag : Bool) → flag_bit flag ≤ 1
-flag_most true = omega arith
-flag_most false = omega arith
+pub bit_le : (flag : Bool) → flag_bit flag ≤ 1
+bit_le true = omega arith
+bit_le false = omega arith
 
-kind_most : (kind : FrameKind) → kind_number kind ≤ 3
-kind_most Idle = omega arith
-kind_most Data = omega arith
-kind_most Type2 = omega arith
-kind_most Type3 = omega arith
+pub kind_le : (kind : FrameKind) → kind_number kind ≤ 3
+kind_le Idle = omega arith
+kind_le Data = omega arith
+kind_le Type2 = omega arith
+kind_le Type3 = omega arith
 
 flags_byte_lem : (reserved : ℕ) (ack valid : Bool) (kind : FrameKind) → flags_byte reserved ack valid kind < 256
-flags_byte_lem reserved ack valid kind = omega (arith, flag_most ack, flag_most valid, kind_most kind)
+flags_byte_lem reserved ack valid kind = omega (arith, bit_le ack, bit_le valid, kind_le kind)
 
 module _ (reserved : ReservedBits) (header : Header) where
   pub fields_length : length (field_bytes_with reserved header) ≡ 14

@@ -12,6 +12,7 @@ use Rattle.basics.specs.Numbers.{high_first}
 use Rattle.basics.proofs.Tests.{below, is_same}
 use Rattle.basics.proofs.Lists.{entries_rest}
 use Rattle.header.specs.Header.{flag_bit, kind_number, kind_of, flags_byte}
+use Rattle.header.proofs.Bytes.{bit_le, kind_le}
 use Rattle.header.specs.declared.FrameKind.{FrameKind}
 use Rattle.header.specs.declared.FrameKind.TheVariants.{Idle, Data, Type2, Type3}
 
@@ -21,22 +22,12 @@ pub bit_back : (flag : Bool) → eqb (flag_bit flag) 1 ≡ flag
 bit_back true = refl
 bit_back false = refl
 
-pub bit_le : (flag : Bool) → flag_bit flag ≤ 1
-bit_le true = omega arith
-bit_le false = omega arith
-
 pub kind_back : (kind : FrameKind) → kind_of (kind_number kind) ≡ kind
 unfolding kind_of
 kind_back Idle = refl
 kind_back Data = refl
 kind_back Type2 = refl
 kind_back Type3 = refl
-
-pub kind_le : (kind : FrameKind) → kind_number kind ≤ 3
-kind_le Idle = omega arith
-kind_le Data = omega arith
-kind_le Type2 = omega arith
-kind_le Type3 = omega arith
 
 module _ (reserved : ℕ) (ack valid : Bool) (kind : FrameKind) where
   abbrev d4 : ℕ
