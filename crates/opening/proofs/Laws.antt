@@ -28,7 +28,8 @@ use Rattle.opening.specs.declared.Opened.{Opened}
 use Rattle.opening.specs.Opening.{unscrambled, header_part, area_part, area_checked, repaired_table, body_table, frame_table, open_table, open_refusal}
 use Rattle.opening.specs.Opening.{opened_header, opened_area, opened_wrong}
 
-abbrev opened : Header → ℕ → Opened
+-- what is answered beside the area
+abbrev pub opened : Header → ℕ → Opened
 opened header wrong = record { header = header; repaired = wrong }
 
 -- what rows refuse is refused by these and others behind them
@@ -159,7 +160,7 @@ module _ (taps : ℕ) (frame area : List ℕ) where
       inside_area = ap area_part (repaired.bytes ∙ ap repaired_body came)
 
       pub inside_opened : {header : Header} → header ≡ header_of (header_part body)
-          → ◌≡◌ {A = Opened} record { header = header; repaired = near.wrong } record { header = opened_header taps frame; repaired = opened_wrong taps frame }
+          → opened header near.wrong ≡ opened (opened_header taps frame) (opened_wrong taps frame)
       unfolding opened_header unscrambled
       inside_opened e =
           let size = length-drop 9 frame ∙ ap (λ (n : ℕ). n - 9) outside_passed.long in

@@ -6,22 +6,22 @@ use mathlib.Core.Bool.{true}
 use mathlib.Core.List.{List}
 use Prim.Native.Nat.{ℕ, ◌≤◌}
 use lib.ListN.{length}
-use Rattle.std.specs.Prelude.{Result, Ok, Err}
+use Rattle.std.specs.Prelude.{Result, Ok}
 use Rattle.basics.specs.Lists.{Bytes}
 use Rattle.lent.specs.Written.{written}
 use Rattle.refusals.specs.declared.Refusal.{Refusal}
 use Rattle.refusals.specs.Numbers.{number_in, refusal_of}
 use Rattle.refusals.proofs.Table.{accepted}
-use Rattle.refusals.proofs.Numbers.{numbered, answered}
+use Rattle.refusals.proofs.Numbers.{numbered}
 use Rattle.scrambler.specs.Scrambler.{taps_allowed}
 use Rattle.header.specs.Header.{ReservedBits, header_fits}
 use Rattle.header.specs.declared.Header.{Header}
 use Rattle.frame.specs.Frame.{frame_bytes_with}
-use Rattle.opening.specs.Opening.{open_table, open_refusal, opened_header, opened_reserved, opened_area, OpenOutcome}
+use Rattle.opening.specs.Opening.{open_table, open_refusal, opened_header, opened_reserved, opened_area, opened_wrong, OpenOutcome}
 use Rattle.nearest.specs.Near.{differences}
 use Rattle.opening.specs.NearFrame.{NearFrame}
 use Rattle.opening.specs.declared.Opened.{Opened}
-use Rattle.opening.proofs.Laws.{open_passed}
+use Rattle.opening.proofs.Laws.{opened, open_passed}
 use Rattle.opening.proofs.Built.{near_accepted, near_header_lem, near_area, near_wrong}
 use Rattle.opening.proofs.Accepted.{accepted_near, accepted_fits, accepted_area, accepted_bytes}
 
@@ -30,15 +30,6 @@ pub open_numbers : {taps : ℕ} {frame before : List ℕ} {r : Result Opened Ref
     → number_in r ≡ open_refusal taps frame before
 unfolding open_refusal refusal_of
 open_numbers {taps} {frame} {before} x = ap number_in x.answer ∙ numbered (open_table taps frame before) _ refl
-
--- the header and the count in an answer, or others where there are none
-abbrev header_in : Header → Result Opened Refusal → Header
-header_in other (Ok opened) = opened.header
-header_in other (Err refusal) = other
-
-abbrev repaired_in : ℕ → Result Opened Refusal → ℕ
-repaired_in other (Ok opened) = opened.repaired
-repaired_in other (Err refusal) = other
 
 -- Opening what is near a built frame answers its header and how many bytes differ, and writes its area, for every header that may be sent, all reserved bits and
 -- every 1,908 bytes, into any buffer that is large enough.
@@ -49,7 +40,8 @@ pub open_of_near : (taps : ℕ) (reserved : ReservedBits) (header : Header) (are
 open_of_near taps reserved header area came before r after t h e bytes room near outcome =
     let none = near_accepted taps reserved header area e bytes came near before t h room in (
       outcome.answer ∙ sym (accepted 0 _ _ _ _ (sym none) refl refl)
-          ∙ ap₂ (λ (x : Header) (n : ℕ). Ok record { header = x; repaired = n }) (near_header_lem taps reserved header area e bytes came near h) (near_wrong taps reserved header area e bytes came near),
+          ∙ ap₂ (λ (x : Header) (n : ℕ). Ok (opened x n)) (near_header_lem taps reserved header area e bytes came near h)
+          (near_wrong taps reserved header area e bytes came near),
       outcome.bytes ∙ sym (accepted 0 _ _ _ _ (sym none) refl refl) ∙ ap (written before 0) (near_area taps reserved header area e bytes came near),
     )
 
@@ -71,7 +63,8 @@ near_of_open taps frame before header repaired after outcome =
     let passed = open_passed taps frame before none in
     let whole = passed.0.long in
     let answer = outcome.answer ∙ sym (accepted 0 _ _ _ _ (sym none) refl refl) in
-    let header_is : header ≡ opened_header taps frame = ap (header_in header) answer in
+    let same : opened header repaired ≡ opened (opened_header taps frame) (opened_wrong taps frame) = cc answer in
+    let header_is : header ≡ opened_header taps frame = ap (λ (o : Opened). o.header) same in
     let area = opened_area taps frame in
     let near : NearFrame frame (frame_bytes_with taps (opened_reserved taps frame) header area) =
     subst (λ (x : Header). NearFrame frame (frame_bytes_with taps (opened_reserved taps frame) x area)) (sym header_is)
@@ -85,7 +78,7 @@ near_of_open taps frame before header repaired after outcome =
         long = long;
         bytes = bytes;
         near = near;
-        counted = ap (repaired_in repaired) answer ∙ near_wrong taps (opened_reserved taps frame) header area long bytes frame near;
+        counted = ap (λ (o : Opened). o.repaired) same ∙ near_wrong taps (opened_reserved taps frame) header area long bytes frame near;
       },
       outcome.bytes ∙ sym (accepted 0 _ _ _ _ (sym none) refl refl),
     )

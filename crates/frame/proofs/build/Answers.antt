@@ -1,5 +1,5 @@
 -- What follows the preamble is written behind it (`copied_part`, `written_append`).
-use Rattle.std.proofs.Common.{◌≡◌, arith, ap, sym, ◌∙◌, ◌+◌, ◌-◌, ◌++◌, length}
+use Rattle.std.proofs.Common.{◌≡◌, arith, ap, ◌∙◌, ◌+◌, ◌-◌, ◌++◌, length}
 use borrow.Rule.Slice.PartMut.{put_mid}
 use Rattle.lent.specs.Written.{written}
 use Rattle.lent.proofs.Written.{copied_part, written_append}

@@ -1,5 +1,5 @@
 -- A refusal is the table's, whichever judge gives it (`outside_refused`, `inside_number`); the area is written, and the header read, as the definitions have it.
-use Rattle.std.proofs.Common.{◌≡◌, rules, Err, refl, sym, ap, ◌∙◌, arith, length-take, drop}
+use Rattle.std.proofs.Common.{◌≡◌, rules, Err, sym, ap, ◌∙◌, arith, length-take, drop}
 use Rattle.refusals.specs.Numbers.{judged_by}
 use Rattle.lent.specs.Written.{written}
 use Rattle.header_reading.specs.Reading.{header_of}

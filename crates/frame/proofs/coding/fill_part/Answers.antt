@@ -17,6 +17,6 @@ returns c =
     let front = c.write_at.ensures ∙ ap (written part 0) c.coded_header.ensures in
     let rest : length c.write_at.new.buffer - 32 ≡ 32 + length payload - 32 = omega arith in
     let filled = ap (λ n. put_mid 32 n c.write_at.new.buffer payload) rest ∙ copied_part c.write_at.new.buffer 32 payload
-        ∙ ap (λ l. written l 32 payload) front ∙ written_parts part head payload 32 (coded_header_length all_ones c.args.header) (omega arith)
-        ∙ ap (λ l. head ++ l) c.fill_payload.ensures in
+    ∙ ap (λ l. written l 32 payload) front ∙ written_parts part head payload 32 (coded_header_length all_ones c.args.header) (omega arith)
+    ∙ ap (λ l. head ++ l) c.fill_payload.ensures in
     c.scramble.ensures ∙ ap (scrambled c.args.taps) filled

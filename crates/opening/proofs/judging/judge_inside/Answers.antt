@@ -1,5 +1,5 @@
 -- 8 and on by the rows of `repaired_table`: those of the header first (`header_refused`), then, where none of these applies, 12 and 13 (`payload_then`).
-use Rattle.std.proofs.Common.{rules, ◌≡◌, Err, sym, ap, ◌∙◌, length}
+use Rattle.std.proofs.Common.{rules, ◌≡◌, Err, sym, ap, ◌∙◌}
 use Rattle.refusals.specs.Numbers.{judged_by, refusal_of}
 use Rattle.refusals.specs.Table.{first_of, by}
 use Rattle.refusals.proofs.Numbers.{passed}
@@ -17,7 +17,8 @@ returns-in_err-judge c =
     let args = c.args in
     let judged = sym c.in_err-judge.was ∙ c.judge.ensures ∙ ap (λ l. judged_by (first_of (header_table l))) c.header_part.ensures in
     let same : c.from_residual.result ≡ Err c.in_err-judge.field-0.0 = search rules in
-    same ∙ header_refused args.words args.body.now _ judged ∙ ap (λ near. judged_by (first_of (repaired_table near args.words args.body.now))) (sym c.if-not-header.false)
+    same ∙ header_refused args.words args.body.now _ judged
+    ∙ ap (λ near. judged_by (first_of (repaired_table near args.words args.body.now))) (sym c.if-not-header.false)
 
 pub returns-then-not-words : goal.returns-then-not-words
 unfolding first_of by refusal_of

@@ -1,5 +1,5 @@
 -- Each return gives the first row that applies; the row of 2 tests two lengths.
-use Rattle.std.proofs.Common.{sym, ap, ◌∙◌, arith, take, le-leb, eq-eqb, ne_eqb}
+use Rattle.std.proofs.Common.{sym, ap, ◌∙◌, take, le-leb, eq-eqb, ne_eqb}
 use Rattle.std.proofs.lemmas.Bool.{lt-leb}
 use Rattle.basics.specs.Lists.{same}
 use Rattle.refusals.specs.Numbers.{refusal_of}
@@ -17,9 +17,9 @@ unfolding first_of by refusal_of
 returns-then-frame-ne-FRAME_SIZE c =
     let allowed = sym c.are_taps.ensures ∙ c.if-not-are_taps.false in
     elim c.then-frame-ne-FRAME_SIZE.branch [
-      then-frame-ne-FRAME_SIZE-via-then-frame-ne-FRAME_SIZE w ↦ simp (allowed, ne_eqb _ _ w.if-frame-ne-FRAME_SIZE.true)
-    | then-frame-ne-FRAME_SIZE-via-else-frame-ne-FRAME_SIZE+then-area-lt-AREA_SIZE w ↦
-        simp (allowed, eq-eqb _ _ w.if-frame-ne-FRAME_SIZE.false, lt-leb _ _ w.if-area-lt-AREA_SIZE.true)
+      | then-frame-ne-FRAME_SIZE-via-then-frame-ne-FRAME_SIZE w ↦ simp (allowed, ne_eqb _ _ w.if-frame-ne-FRAME_SIZE.true)
+      | then-frame-ne-FRAME_SIZE-via-else-frame-ne-FRAME_SIZE+then-area-lt-AREA_SIZE w ↦
+          simp (allowed, eq-eqb _ _ w.if-frame-ne-FRAME_SIZE.false, lt-leb _ _ w.if-area-lt-AREA_SIZE.true)
     ]
 
 pub returns-then-not-are_same : goal.returns-then-not-are_same

@@ -1,5 +1,5 @@
 -- What follows the preamble fills the 2,072 bytes, and scrambling is by its contract what the definition does with it.
-use Rattle.std.proofs.Common.{ap, ◌∙◌, ◌≡◌, arith, length, drop, length-drop}
+use Rattle.std.proofs.Common.{ap, ◌∙◌}
 use Rattle.basics.proofs.Lists.{cut_rest_lem}
 use Rattle.opening.specs.Opening.{unscrambled}
 use Rattle.scrambler.specs.Scrambler.{scrambled}
