@@ -69,19 +69,11 @@ fn write_record(area: &mut [u8], at: usize, piece: Record, queue: &[u8], start: 
       bytes = take piece.length (drop piece.start (round_from start queue.now));
     })) }
 {
-    let mark = value_of(piece.first, sizes::FIRST_BIT)
-        + value_of(piece.last, sizes::LAST_BIT)
+    let mark = usize::from(piece.first) * sizes::FIRST_BIT
+        + usize::from(piece.last) * sizes::LAST_BIT
         + piece.length;
     lent::write_at(area, at, &marks::bytes_of(mark));
     ring::copy_out(queue, start, piece.start, piece.length, area, at + 2);
-}
-
-// A mark's bit, as a number.
-fn value_of(set: bool, value: usize) -> usize
-    ensures value { result ≡ cond set value 0 }
-    ensures small { result ≤ value }
-{
-    if set { value } else { 0 }
 }
 
 // Frees the ring up to where filling stopped: gives the sender with what is left. A cut packet's new mark, with bit 15 "begun", goes over the two bytes before
