@@ -67,8 +67,8 @@ module _ {part : ℕ} {last : Bool} {bytes : List ℕ} {before : Joined} {hold l
 
 -- ---- with nothing held, a record without "first" is skipped
 
-pub skips : {first last : Bool} {bytes : List ℕ} {before : Joined} {hold list : List ℕ} → Ready first last bytes before hold list → first ≡ false → before.held ≡ 0
-    → StepOutcome (on_piece (take before.held hold) first last bytes) before hold list before hold list
+pub skips : {first last : Bool} {bytes : List ℕ} {before : Joined} {hold list : List ℕ} → Ready first last bytes before hold list
+    → first ≡ false → before.held ≡ 0 → StepOutcome (on_piece (take before.held hold) first last bytes) before hold list before hold list
 skips {before = before} {hold = hold} {list = list} r e z = rw (e, z) (record {
   held = refl;
   packets = sym (add-zero before.packets);

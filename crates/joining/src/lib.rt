@@ -19,7 +19,7 @@ pub fn join(area: &[u8], before: usize, hold: &mut [u8], list: &mut [u8]) -> Joi
         packets: 0,
         listed: 0,
     };
-    // From mark to mark: no index is counted.
+    // A record tells where the next stands: no index is counted.
     while let Ok(Some(record)) = packing::record_at(area, at) {
         joined = growing::join_piece(record.piece(area), joined, hold, list);
         at = record.start + record.length;

@@ -87,7 +87,8 @@ fn walk_stretch(stretch: &[u8], from: usize) -> usize
 // A place behind every ring.
 const NOWHERE: usize = 2 * sizes::QUEUE_SIZE;
 
-// The used bytes of a ring, which stand round in its buffer from a start on; to the contracts they are a list.
+// The used bytes of a ring, which stand round in its buffer from a start on; to the contracts they are a list. It is made where start and count have been
+// judged: what other crates call takes the three apart, for the start and the count are the sender's, and change while the queue stays.
 #[derive(Drop)]
 struct Ring<'a> {
     buffer: &'a [u8],
@@ -153,7 +154,8 @@ impl<'a> Ring<'a> {
         is_length(used, 0, n, sizes::MOST_HELD) && self.are_packets(2 + n)
     }
 
-    // How many packets they are, one that is begun among them: from mark to mark, without the bit that tells that one is begun.
+    // How many packets they are, one that is begun among them: from mark to mark, without the bit that tells that one is begun. The place is a mark's and no
+    // index that a `for` could count.
     fn packets(&self) -> usize
         requires { is_whole self.now ≡ true }
         ensures { result ≡ packet_count (queue_in self.now) }

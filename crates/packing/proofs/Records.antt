@@ -118,7 +118,8 @@ at_end area at e =
     let g = ended (eqb at 0) (all_zero (drop at area)) f in
     (positive (eqb-false at 0 g.0), all_zeros (drop at area) g.1)
   where
-    go : (a b c : Bool) → cond a (end_at area at) (cond b (end_at area at) (cond c (Ok (Some (placed at (mark_at (drop at area))))) (Err Packing))) ≡ Ok None → end_at area at ≡ Ok None
+    go : (a b c : Bool) → cond a (end_at area at) (cond b (end_at area at) (cond c (Ok (Some (placed at (mark_at (drop at area))))) (Err Packing))) ≡ Ok None
+        → end_at area at ≡ Ok None
     go true b c e = e
     go false true c e = e
     go false false true e = let z : ◌≡◌ {A = ℕ} 0 1 = cc in absurd (omega arith)

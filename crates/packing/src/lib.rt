@@ -51,7 +51,7 @@ pub fn is_allowed(area: &[u8]) -> bool
     area.len() == sizes::AREA_SIZE && read_through(area).is_ok()
 }
 
-// Goes from record to record of an area, up to their end or to what is against the rules.
+// Goes from record to record of an area, up to their end or to what is against the rules. A record tells where the next stands: no index is counted.
 fn read_through(area: &[u8]) -> Result<(), Refusal>
     requires { length area.now ≡ area_size }
     ensures { is_ok result ≡ is_some (read area.now) }

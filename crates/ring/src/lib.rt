@@ -1,5 +1,6 @@
 // A lent buffer used as a ring (02, M-105): its bytes are read and written from a start on, and behind its last byte stands its first.
-// No call copies in more than two parts.
+// No call copies in more than two parts. The start goes beside the buffer, since both are the caller's, lent for one call: a struct of them would be made and
+// taken apart at each, and be no plainer.
 #![tactic(auto)]
 
 ghost use Rattle.std.specs.Prelude.{◌≡◌, ◌+◌, ◌≤◌, length, take, drop};
