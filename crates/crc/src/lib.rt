@@ -12,12 +12,6 @@ ghost use Rattle.crc.specs.Register.{byte_step, number_sum};
 
 use basics::sizes;
 
-// Table 2-15, frame header, times x^16: then one register of 32 bits serves both, and the remainder has sixteen zeros behind it too.
-const POLYNOMIAL_16: u64 = 0x110210000;
-
-// Table 2-15, frame payload.
-const POLYNOMIAL_32: u64 = 0x104C11DB7;
-
 // The bytes that folding leaves out of an area: 223 times eight, and the 124 that remain are too few for one more turn.
 const FOLDED: usize = 1784;
 
@@ -27,6 +21,16 @@ struct Divisor {
     polynomial: u64,
     ghost of_degree_32: { polynomial / 2 ^ 32 ≡ 1 },
 }
+
+// Table 2-15, frame header, times x^16: then one register of 32 bits serves both, and the remainder has sixteen zeros behind it too.
+const HEADER_DIVISOR: Divisor = Divisor {
+    polynomial: 0x110210000,
+};
+
+// Table 2-15, frame payload.
+const PAYLOAD_DIVISOR: Divisor = Divisor {
+    polynomial: 0x104C11DB7,
+};
 
 impl Divisor {
     // A register times x, modulo the polynomial.
@@ -64,10 +68,7 @@ impl Divisor {
 pub fn crc_16(message: &[u8]) -> u16
     ensures { result ≡ crc_16 message.now }
 {
-    let divisor = Divisor {
-        polynomial: POLYNOMIAL_16,
-    };
-    (divisor.check_sum(message) / 0x10000) as u16
+    (HEADER_DIVISOR.check_sum(message) / 0x10000) as u16
 }
 
 // Adds a number's eight bytes to those from index at on.
@@ -99,14 +100,11 @@ fn fold(bytes: &mut [u8])
 pub fn crc_32(message: &[u8]) -> u32
     ensures { result ≡ crc_32 message.now }
 {
-    let divisor = Divisor {
-        polynomial: POLYNOMIAL_32,
-    };
     let Ok(mut bytes) = <[u8; sizes::AREA_SIZE]>::try_from(message) else {
-        return divisor.check_sum(message);
+        return PAYLOAD_DIVISOR.check_sum(message);
     };
     for at in (0..FOLDED).step_by(8) {
         fold(&mut bytes[at..]);
     }
-    divisor.check_sum(&bytes[FOLDED..])
+    PAYLOAD_DIVISOR.check_sum(&bytes[FOLDED..])
 }

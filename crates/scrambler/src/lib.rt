@@ -43,6 +43,7 @@ fn add_words(words: &[u64; 100], bytes: &mut [u8])
 {
     let mut key = [0u8; 400];
     lent::numbers::write_numbers(&mut key, &words[..50]);
+    // The key by an index, since of bytes that went through a `zip` a proof knows nothing afterwards (tried).
     for (i, byte) in bytes.iter_mut().enumerate() {
         *byte ^= key[i];
     }
