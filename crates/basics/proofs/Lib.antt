@@ -3,3 +3,4 @@ pub mod Tests
 pub mod Lists
 pub mod Fill
 pub mod Numbers
+pub mod Iterators

@@ -18,11 +18,9 @@ pub fn parity_of(message: &[u8]) -> [u8; 16]
 {
     let coefficients = register::generator();
     let mut register = [0u8; 16];
-    let mut i = 0;
-    while i < message.len() {
-        let next = shift(&coefficients, register, message[i]);
+    for byte in message {
+        let next = shift(&coefficients, register, *byte);
         register = next;
-        i += 1;
     }
     register
 }
@@ -34,10 +32,8 @@ fn shift(coefficients: &[u8; 17], register: [u8; 16], byte: u8) -> [u8; 16]
 {
     let leaving = register[0] ^ byte;
     let mut next = [0u8; 16];
-    let mut j = 0;
-    while j < 15 {
+    for j in 0..15 {
         next[j] = field::product(leaving, coefficients[j + 1]) ^ register[j + 1];
-        j += 1;
     }
     next[15] = field::product(leaving, coefficients[16]);
     next
@@ -61,10 +57,8 @@ pub fn write_parity(payload: &mut [u8])
     requires { length payload.old ≡ 2040 }
     ensures { payload.new ≡ coded_payload (take 1912 payload.old) }
 {
-    let mut k = 0;
-    while k < 8 {
+    for k in 0..8 {
         write_word(payload, k);
-        k += 1;
     }
 }
 
@@ -75,13 +69,11 @@ pub fn are_codewords(payload: &[u8]) -> bool
     if payload.len() != 2040 {
         return false;
     }
-    let mut k = 0;
-    while k < 8 {
+    for k in 0..8 {
         let word = interleaving::gathered(payload, k);
         if !is_codeword(&word) {
             return false;
         }
-        k += 1;
     }
     true
 }
@@ -93,9 +85,7 @@ fn write_word(payload: &mut [u8], k: usize)
 {
     let word = interleaving::gathered(payload, k);
     let parity = parity_of(&word[..239]);
-    let mut j = 0;
-    while j < 16 {
+    for j in 0..16 {
         payload[1912 + k + 8 * j] = parity[j];
-        j += 1;
     }
 }

@@ -1,7 +1,7 @@
 -- The register of the code, as a loop feeds it; a word is a codeword exactly where its last 16 bytes are the parity of the others; zeros in front.
 use mathlib.Core.Path.{◌≡◌, refl, sym, ap, ap₂, ◌∙◌, subst}
 use mathlib.Core.Bool.{true}
-use mathlib.Core.List.{List, ◌++◌, tail, append_assoc}
+use mathlib.Core.List.{List, [], ◌∷◌, ◌++◌, tail, append_assoc}
 use Prim.Native.Nat.{ℕ, ◌+◌, ◌-◌, ◌≤◌, ◌<◌}
 use native.Mathlib.Omega.{arith}
 use lib.Dec.{eqb}
@@ -30,6 +30,12 @@ step_long times register row long = step_length times (tail generator) register 
 
 pub fed_length : (times : ℕ → ℕ → ℕ) (message : List ℕ) → length (feed times (tail generator) (zeros 16) message) ≡ 16
 fed_length times message = feed_length times (tail generator) (zeros 16) message (sym generator_length) ∙ generator_length
+
+-- one row more
+pub feed_behind : (times : ℕ → ℕ → ℕ) (g s rows : List ℕ) (row : ℕ) → feed times g s (rows ++ row ∷ []) ≡ step times g (feed times g s rows) row
+unfolding feed
+feed_behind times g s [] row = refl
+feed_behind times g s (x ∷ rows) row = feed_behind times g (step times g s x) rows row
 
 -- a loop: i coefficients of a message are in a register that began with zeros
 pub record Fed (times : ℕ → ℕ → ℕ) (message : List ℕ) (i : ℕ) (register : List ℕ) : Type 0 where

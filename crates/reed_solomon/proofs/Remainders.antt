@@ -6,10 +6,10 @@ use native.Mathlib.Nat.{zero-add, mod-lt}
 use native.Mathlib.Omega.{arith}
 use lib.Bits.{bit_xor}
 use lib.Dec.{lit<, lit≤}
-use lib.ListN.{length, get_or, take, drop}
+use lib.ListN.{length, get_or, take, drop, length-drop}
 use lib.Seq.{ext_get_or, get_or-drop, get_or-take}
 use Rattle.basics.specs.Lists.{entries}
-use Rattle.basics.proofs.Lists.{entries_at}
+use Rattle.basics.proofs.Lists.{entries_length, entries_at}
 use Rattle.division.specs.Division.{plus}
 use Rattle.division.proofs.Register.{plus_length, plus_get_or}
 use Rattle.reed_solomon.specs.Code.{parity, remainder_of, lengthened}
@@ -80,6 +80,19 @@ remainder_byte_lem payload long i h =
     ∙ ap (λ (w : List ℕ). get_or (parity w) j 0) same)
     ∙ ap (λ (m : ℕ). bit_xor (get_or (parity (every_eighth 239 k payload)) j 0) (get_or payload (1912 + m) 0)) at
     ∙ sym (word_remainder_at payload k j j-low)
+
+pub remainders_are : (payload : List ℕ) → length payload ≡ 2040
+    → plus (entries (parity_byte (take 1912 payload)) 0 128) (drop 1912 payload) ≡ entries (remainder_byte payload) 0 128
+remainders_are payload long =
+    let parity = entries (parity_byte (take 1912 payload)) 0 128 in
+    let last = drop 1912 payload in
+    let size : length last ≡ 128 = simp length-drop (omega arith) in
+    let sum_size = plus_length parity last 128 (entries_length (parity_byte (take 1912 payload)) 0 128) size in
+    ext_get_or 0 (plus parity last) (entries (remainder_byte payload) 0 128) (sum_size ∙ sym (entries_length (remainder_byte payload) 0 128))
+    (λ i h.
+    let short : i < 128 = omega arith in
+    plus_get_or parity last i ∙ ap (bit_xor (get_or parity i 0)) (get_or-drop 1912 payload i 0) ∙ remainder_byte_lem payload long i short
+    ∙ sym (entries_at (remainder_byte payload) 0 128 i short ∙ ap (remainder_byte payload) (zero-add i)))
 
 -- word k's remainder is every eighth byte of them
 pub remainder_of_word : (payload : List ℕ) (k : ℕ) → k < 8

@@ -1,12 +1,14 @@
 -- The rows of a payload: word k's bytes in them are every eighth byte, so the registers fed with them hold the payload's parity bytes.
-use mathlib.Core.Path.{◌≡◌, sym, ap, ◌∙◌}
-use mathlib.Core.List.{List, ◌++◌, append-nil}
-use Prim.Native.Nat.{ℕ, ◌+◌, ◌*◌, ◌/◌, ◌%◌, ◌≤◌, ◌<◌}
+use mathlib.Core.Path.{◌≡◌, refl, sym, ap, ◌∙◌}
+use mathlib.Core.List.{List, ◌∷◌, ◌++◌, append-nil, map}
+use Prim.Native.Nat.{ℕ, zero, suc, ◌+◌, ◌*◌, ◌/◌, ◌%◌, ◌≤◌, ◌<◌}
 use native.Mathlib.Nat.{mod-lt, zero-add, add_comm}
+use native.Mathlib.Numerals.{add-one}
 use native.Mathlib.Omega.{arith}
 use lib.Dec.{lit<}
 use lib.ListN.{length, get_or, take, drop_of_length-le, length-map}
 use lib.Seq.{ext_get_or}
+use Rattle.std.specs.List.{range_with_len}
 use Rattle.basics.specs.Lists.{Bytes, entries}
 use Rattle.basics.specs.Numbers.{number_at}
 use Rattle.basics.proofs.Lists.{entries_length, entries_at}
@@ -20,6 +22,11 @@ use Rattle.reed_solomon.specs.Payload.{every_eighth, parity_byte, coded_payload}
 use Rattle.reed_solomon.specs.Rows.{rows}
 use Rattle.reed_solomon.proofs.Interleaved.{eighth_length, eighth_at}
 
+mapped_entries : (f : ℕ → ℕ) (i n : ℕ) → map f (range_with_len i n) ≡ entries f i n
+unfolding entries
+mapped_entries f i zero = refl
+mapped_entries f i (suc n) = ap (λ (l : List ℕ). f i ∷ l) (ap (λ (j : ℕ). map f (range_with_len j n)) (add-one i) ∙ mapped_entries f (suc i) n)
+
 module _ (message : List ℕ) where
   pub rows_length : length (rows message) ≡ 239
   unfolding rows
@@ -28,6 +35,11 @@ module _ (message : List ℕ) where
   pub row_at : (i : ℕ) → i < 239 → get_or (rows message) i 0 ≡ number_at (8 * i) 8 message
   unfolding rows
   row_at i h = entries_at (λ i. number_at (8 * i) 8 message) 0 239 i h ∙ ap (λ (j : ℕ). number_at (8 * j) 8 message) (zero-add i)
+
+  -- the same, as a range is mapped
+  pub rows_mapped : map (λ i. number_at (8 * i) 8 message) (range_with_len 0 239) ≡ rows message
+  unfolding rows
+  rows_mapped = mapped_entries (λ i. number_at (8 * i) 8 message) 0 239
 
 module _ (message : List ℕ) (bytes : Bytes message) where
   word_rows : (k : ℕ) → k < 8 → word_in k (rows message) ≡ every_eighth 239 k message

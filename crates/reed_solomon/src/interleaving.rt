@@ -1,15 +1,12 @@
 // The eight interleaved words of the Reed-Solomon code in a payload of 2,040 bytes: eight neighbours are a row, with a byte of each word.
 ghost use Rattle.std.specs.Prelude.{◌≡◌, ◌<◌, length, take};
-ghost use mathlib.Core.List.{tail};
-ghost use Rattle.basics.specs.Lists.{zeros, entries};
-ghost use Rattle.field.specs.EachByte.{times_each};
-ghost use Rattle.division.specs.Register.{feed};
-ghost use Rattle.reed_solomon.specs.Code.{generator};
+ghost use Rattle.basics.specs.Lists.{entries};
 ghost use Rattle.reed_solomon.specs.Payload.{every_eighth, parity_byte, coded_payload};
-ghost use Rattle.reed_solomon.specs.Rows.{rows, remainder_byte};
+ghost use Rattle.reed_solomon.specs.Rows.{remainder_byte};
 
 use crate::register;
 use lent::numbers;
+use std::array;
 
 // Writes the 128 parity bytes of the eight words behind the 1,912 bytes of data.
 pub fn write_parity(payload: &mut [u8])
@@ -25,14 +22,8 @@ pub fn remainders(payload: &[u8]) -> [u8; 128]
     requires { length payload.now ≡ 2040 }
     ensures { result ≡ entries (remainder_byte payload.now) 0 128 }
 {
-    let parity = parity_bytes(&payload[..1912]);
-    let mut remainders = [0u8; 128];
-    let mut i = 0;
-    while i < 128 {
-        remainders[i] = parity[i] ^ payload[1912 + i];
-        i += 1;
-    }
-    remainders
+    let (data, last) = payload.split_at(1912);
+    crate::plus(parity_bytes(data), last)
 }
 
 // Word k: every eighth byte.
@@ -40,13 +31,7 @@ pub fn gathered(payload: &[u8], k: usize) -> [u8; 255]
     requires { (k < 8) × (length payload.now ≡ 2040) }
     ensures { result ≡ every_eighth 255 k payload.now }
 {
-    let mut word = [0u8; 255];
-    let mut i = 0;
-    while i < 255 {
-        word[i] = payload[k + 8 * i];
-        i += 1;
-    }
-    word
+    array::from_fn(|i| payload[k + 8 * i])
 }
 
 // The parity bytes of the eight words of 1,912 bytes of data.
@@ -54,24 +39,8 @@ fn parity_bytes(message: &[u8]) -> [u8; 128]
     requires { length message.now ≡ 1912 }
     ensures { result ≡ entries (parity_byte message.now) 0 128 }
 {
-    let registers = feed(message);
+    let registers = register::fed((0..239).map(|i| numbers::number_at(message, 8 * i)));
     let mut parity = [0u8; 128];
     numbers::write_numbers(&mut parity, &registers);
     parity
-}
-
-// What registers of zeros hold after the rows of the data.
-fn feed(message: &[u8]) -> [u64; 16]
-    requires { length message.now ≡ 1912 }
-    ensures { result ≡ feed times_each (tail generator) (zeros 16) (rows message.now) }
-{
-    let mut registers = [0u64; 16];
-    let mut i = 0;
-    while i < 239 {
-        let row = numbers::number_at(message, 8 * i);
-        let next = register::shift(registers, row);
-        registers = next;
-        i += 1;
-    }
-    registers
 }

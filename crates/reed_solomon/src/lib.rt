@@ -5,38 +5,15 @@ pub mod interleaving;
 pub mod register;
 
 ghost use Rattle.std.specs.Prelude.{◌≡◌, ◌≤◌, length};
-ghost use mathlib.Core.List.{tail};
-ghost use Rattle.basics.specs.Lists.{zeros};
-ghost use Rattle.field.specs.EachByte.{times_each};
-ghost use Rattle.division.specs.Register.{feed};
-ghost use Rattle.reed_solomon.specs.Code.{generator, parity, remainder_of, lengthened};
+ghost use Rattle.division.specs.Division.{plus};
+ghost use Rattle.reed_solomon.specs.Code.{parity, remainder_of, lengthened};
 
-// The 16 parity bytes of some data.
+// The 16 parity bytes of some data. Its bytes are rows in which the first word alone has a byte.
 pub fn parity_of(message: &[u8]) -> [u8; 16]
     ensures { result ≡ parity message.now }
 {
-    let registers = feed(message);
-    let mut parity = [0u8; 16];
-    let mut j = 0;
-    while j < 16 {
-        parity[j] = (registers[j] % 256) as u8;
-        j += 1;
-    }
-    parity
-}
-
-// What registers of zeros hold after a message, whose bytes are rows in which the first word alone has a byte.
-fn feed(message: &[u8]) -> [u64; 16]
-    ensures { result ≡ feed times_each (tail generator) (zeros 16) message.now }
-{
-    let mut registers = [0u64; 16];
-    let mut i = 0;
-    while i < message.len() {
-        let next = register::shift(registers, message[i] as u64);
-        registers = next;
-        i += 1;
-    }
-    registers
+    let registers = register::fed(message.iter().map(|byte| u64::from(*byte)));
+    registers.map(|register| (register % 256) as u8)
 }
 
 // What division by the generator leaves of a word, with the zeros in front that are not sent: zeros of a codeword.
@@ -44,13 +21,18 @@ pub fn remainder_of(word: &[u8]) -> [u8; 16]
     requires { (16 ≤ length word.now) × (length word.now ≤ 255) }
     ensures { result ≡ remainder_of (lengthened word.now) }
 {
-    let end = word.len() - 16;
-    let parity = parity_of(&word[..end]);
-    let mut remainder = [0u8; 16];
-    let mut j = 0;
-    while j < 16 {
-        remainder[j] = parity[j] ^ word[end + j];
-        j += 1;
+    let (data, last) = word.split_at(word.len() - 16);
+    plus(parity_of(data), last)
+}
+
+// The sum of two polynomials. A loop, which becomes sixteen lanes.
+fn plus<const N: usize>(a: [u8; N], b: &[u8]) -> [u8; N]
+    requires { length b.now ≡ N }
+    ensures { result ≡ plus a.entry b.now }
+{
+    let mut sum = [0; N];
+    for i in 0..N {
+        sum[i] = a[i] ^ b[i];
     }
-    remainder
+    sum
 }

@@ -1,8 +1,10 @@
 // Long division by the generator, with a register of 16 places for each of eight words: a row has a byte of each, word k's at byte k.
-ghost use Rattle.std.specs.Prelude.{◌≡◌};
+ghost use Rattle.std.specs.Prelude.{◌≡◌, ℕ, List};
+ghost use Rattle.std.specs.Iterator.{Drains, IsFinite};
 ghost use mathlib.Core.List.{tail};
+ghost use Rattle.basics.specs.Lists.{zeros};
 ghost use Rattle.field.specs.EachByte.{times_each};
-ghost use Rattle.division.specs.Register.{step};
+ghost use Rattle.division.specs.Register.{step, feed};
 ghost use Rattle.reed_solomon.specs.Code.{generator};
 
 use field::times_each;
@@ -16,6 +18,21 @@ pub fn generator() -> [u8; 17]
     ensures { result ≡ generator }
 {
     GENERATOR
+}
+
+// What registers of zeros hold after some rows. It is made anew where it is called: as a function of its own it would spill two more registers a row.
+#[inline(always)]
+pub fn fed<I: Iterator<Item = u64> + Drop>(rows: I) -> [u64; 16]
+    requires can { I.can_next rows }
+    requires ends { IsFinite (I.remaining rows) }
+    ensures { (numbers : List ℕ) × Drains I.next_gives rows numbers × (result ≡ feed times_each (tail generator) (zeros 16) numbers) }
+{
+    let mut registers = [0; 16];
+    for row in rows {
+        let next = shift(registers, row);
+        registers = next;
+    }
+    registers
 }
 
 // A row goes into the eight registers. The products are written out, so that the compiler knows each coefficient and shares the doublings.

@@ -18,7 +18,7 @@ pub returns-then-payload-ne2040 : goal.returns-then-payload-ne2040
 returns-then-payload-ne2040 c = never_true _ (λ e. c.if-payload-ne2040.true (true_codewords _ e).long)
 
 pub loop-k-init : goal.loop-k-init
-loop-k-init c = (search rules, λ m h. absurd (omega arith))
+loop-k-init c = λ m h. absurd (omega arith)
 
 pub is_codeword-requires : goal.is_codeword-requires
 is_codeword-requires c =
@@ -39,13 +39,11 @@ pub loop-k-preserved : goal.loop-k-preserved
 loop-k-preserved c =
     let gathered = c.gathered-word in
     let loop = c.loop-k in
-    let payload = c.args.payload.now in (
-      search rules,
-      below_more (λ m. is_codeword (every_eighth 255 m payload) ≡ true) loop.k loop.invariant.1
-          (sym (in_code payload loop.k gathered.result gathered.ensures) ∙ sym c.is_codeword.ensures ∙ c.if-not-is_codeword.false),
-    )
+    let payload = c.args.payload.now in
+    below_more (λ m. is_codeword (every_eighth 255 m payload) ≡ true) loop.k loop.invariant
+    (sym (in_code payload loop.k gathered.result gathered.ensures) ∙ sym c.is_codeword.ensures ∙ c.if-not-is_codeword.false)
 
 pub returns : goal.returns
 returns c =
     let loop = c.loop-k in
-    sym (codewords_true _ (record { long = c.if-payload-ne2040.false; each = λ m h. true_codeword _ (loop.invariant.1 m (omega arith)) }))
+    sym (codewords_true _ (record { long = c.if-payload-ne2040.false; each = λ m h. true_codeword _ (loop.invariant m (omega arith)) }))

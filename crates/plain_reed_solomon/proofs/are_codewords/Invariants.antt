@@ -2,13 +2,10 @@
 -- one that is none makes the definition's answer no, and after eight it is yes.
 use mathlib.Core.Path.{◌≡◌}
 use mathlib.Core.Bool.{true}
-use Prim.Native.Nat.{ℕ, ◌≤◌, ◌<◌, ◌-◌}
+use Prim.Native.Nat.{ℕ, ◌≤◌, ◌<◌}
 use Rattle.reed_solomon.specs.Code.{is_codeword}
 use Rattle.reed_solomon.specs.Payload.{every_eighth}
 use Rattle.plain_reed_solomon.proofs.are_codewords.Given as goal
 
 abbrev pub invariant-loop-k : goal.invariant-loop-k
-invariant-loop-k l = (l.k ≤ 8) × ((m : ℕ) → m < l.k → is_codeword (every_eighth 255 m l.payload) ≡ true)
-
-abbrev pub decreases-loop-k : goal.decreases-loop-k
-decreases-loop-k l = 8 - l.k
+invariant-loop-k l = ((m : ℕ) → m < l.k → is_codeword (every_eighth 255 m l.payload) ≡ true)

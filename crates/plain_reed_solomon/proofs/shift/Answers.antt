@@ -21,10 +21,9 @@ loop-j-preserved c =
     let byte = c.args.byte in (
       search rules,
       search rules,
-      search rules,
-      filled_more (step times (tail generator) register byte) loop.next loop.j _ loop.invariant.3 (omega arith)
+      filled_more (step times (tail generator) register byte) loop.next loop.j _ loop.invariant.2 (omega arith)
           (ap (λ x. bit_xor x (get_or register (loop.j + 1) 0)) c.product.ensures
-          ∙ place c.args.coefficients.now register byte c.requires loop.invariant.1 loop.j (omega arith)),
+          ∙ place c.args.coefficients.now register byte c.requires loop.invariant.0 loop.j (omega arith)),
     )
 
 pub returns : goal.returns
@@ -35,6 +34,6 @@ returns c =
     let last = c.product-2.result in
     let t = step times (tail generator) register byte in
     filled_all t (set loop.next 15 last) 16
-    (filled_more t loop.next 15 last (λ k h. loop.invariant.3 k (omega arith)) (omega arith)
-    (c.product-2.ensures ∙ last_place c.args.coefficients.now register byte c.requires loop.invariant.1))
-    (length-set loop.next 15 last ∙ loop.invariant.2) (step_long times register byte loop.invariant.1)
+    (filled_more t loop.next 15 last (λ k h. loop.invariant.2 k (omega arith)) (omega arith)
+    (c.product-2.ensures ∙ last_place c.args.coefficients.now register byte c.requires loop.invariant.0))
+    (length-set loop.next 15 last ∙ loop.invariant.1) (step_long times register byte loop.invariant.0)

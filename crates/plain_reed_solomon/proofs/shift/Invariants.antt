@@ -1,7 +1,6 @@
 -- Place by place: a product plus the byte that moves up (`place`) is the step's; nothing moves up into the last place (`last_place`).
 use mathlib.Core.Path.{◌≡◌}
 use mathlib.Core.List.{tail}
-use Prim.Native.Nat.{◌≤◌, ◌-◌}
 use lib.ListN.{length}
 use Rattle.basics.proofs.Fill.{Filled}
 use Rattle.field.specs.Field.{times}
@@ -11,7 +10,4 @@ use Rattle.plain_reed_solomon.proofs.shift.Given as goal
 
 abbrev pub invariant-loop-j : goal.invariant-loop-j
 invariant-loop-j l =
-    (l.j ≤ 15) × (length l.register ≡ 16) × (length l.next ≡ 16) × Filled (step times (tail generator) l.register l.byte) l.j l.next
-
-abbrev pub decreases-loop-j : goal.decreases-loop-j
-decreases-loop-j l = 15 - l.j
+    (length l.register ≡ 16) × (length l.next ≡ 16) × Filled (step times (tail generator) l.register l.byte) l.j l.next

@@ -8,26 +8,26 @@ use borrow.Author.Rules.{rules}
 use Rattle.plain_reed_solomon.proofs.write_parity.Goals as goal
 
 pub loop-k-init : goal.loop-k-init
-loop-k-init c = (search rules, sym (parities_none c.args.payload.now))
+loop-k-init c = sym (parities_none c.args.payload.now)
 
 pub write_word-requires : goal.write_word-requires
 write_word-requires c =
     let loop = c.loop-k in
-    (c.loop-k-test.true, ap length loop.invariant.1 ∙ parities_length loop.k c.args.payload.now ∙ c.requires)
+    (c.loop-k-test.true, ap length loop.invariant ∙ parities_length loop.k c.args.payload.now ∙ c.requires)
 
 pub loop-k-preserved : goal.loop-k-preserved
 loop-k-preserved c =
     let loop = c.loop-k in
     let payload = c.args.payload.now in
-    (search rules, c.write_word.ensures ∙ ap (with_parity loop.k) loop.invariant.1 ∙ parities_more loop.k payload)
+    c.write_word.ensures ∙ ap (with_parity loop.k) loop.invariant ∙ parities_more loop.k payload
 
 pub shape_of-payload : goal.shape_of-payload
 shape_of-payload c =
     let loop = c.loop-k in
-    omega (arith, ap length loop.invariant.1, parities_length loop.k c.args.payload.now)
+    omega (arith, ap length loop.invariant, parities_length loop.k c.args.payload.now)
 
 pub returns : goal.returns
 returns c =
     let loop = c.loop-k in
     let payload = c.args.payload.now in
-    loop.invariant.1 ∙ ap (λ n. with_parities n payload) (omega arith) ∙ all_parities payload c.requires
+    loop.invariant ∙ ap (λ n. with_parities n payload) (omega arith) ∙ all_parities payload c.requires

@@ -29,7 +29,7 @@ loop-j-init c =
     let e : c.parity_of-parity.result ≡ parity (every_eighth 239 args.k payload) =
     c.parity_of-parity.ensures ∙ ap (λ t. parity (take 239 t)) c.gathered-word.ensures
     ∙ ap parity (take_eighth 239 255 args.k payload (omega arith)) in
-    (search rules, ap length e ∙ parity_length _, refl, ap₂ (λ p n. spread p n payload) e (add-zero (1912 + args.k)))
+    (ap length e ∙ parity_length _, refl, ap₂ (λ p n. spread p n payload) e (add-zero (1912 + args.k)))
 
 pub loop-j-preserved : goal.loop-j-preserved
 loop-j-preserved c =
@@ -37,12 +37,11 @@ loop-j-preserved c =
     let parity = c.parity_of-parity.result in
     let k = c.args.k in (
       search rules,
-      search rules,
-      simp length-set loop.invariant.2,
-      spread_turn parity loop.payload (1912 + k) loop.j (omega arith) ∙ loop.invariant.3,
+      simp length-set loop.invariant.1,
+      spread_turn parity loop.payload (1912 + k) loop.j (omega arith) ∙ loop.invariant.2,
     )
 
 pub returns : goal.returns
 returns c =
     let loop = c.loop-j in
-    sym (spread_end c.parity_of-parity.result loop.payload _ loop.j (omega arith)) ∙ loop.invariant.3
+    sym (spread_end c.parity_of-parity.result loop.payload _ loop.j (omega arith)) ∙ loop.invariant.2

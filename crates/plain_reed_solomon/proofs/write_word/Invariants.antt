@@ -1,6 +1,6 @@
 -- Byte by byte: the parity bytes left, spread over what is written so far, give what spreading all gives (`spread_turn`); in the end none is left.
 use mathlib.Core.Path.{◌≡◌}
-use Prim.Native.Nat.{◌+◌, ◌*◌, ◌≤◌, ◌-◌}
+use Prim.Native.Nat.{◌+◌, ◌*◌, ◌≤◌}
 use lib.ListN.{length, drop}
 use Rattle.reed_solomon.specs.Rows.{spread}
 use Rattle.plain_reed_solomon.specs.Word.{with_parity}
@@ -8,8 +8,5 @@ use Rattle.plain_reed_solomon.proofs.write_word.Given as goal
 
 abbrev pub invariant-loop-j : goal.invariant-loop-j
 invariant-loop-j l =
-    (l.j ≤ 16) × (length l.parity ≡ 16) × (length l.payload ≡ length l.initial.payload)
+    (length l.parity ≡ 16) × (length l.payload ≡ length l.initial.payload)
     × (spread (drop l.j l.parity) (1912 + l.k + 8 * l.j) l.payload ≡ with_parity l.k l.initial.payload)
-
-abbrev pub decreases-loop-j : goal.decreases-loop-j
-decreases-loop-j l = 16 - l.j

@@ -1,34 +1,28 @@
--- Place by place the lowest bytes of the registers are taken (`Filled`); they are the parity of the first word, the message (`registers_bytes`).
-use native.Mathlib.Omega.{arith}
-use mathlib.Core.Path.{sym, ap, ◌∙◌}
-use lib.ListN.{length, length-map, length-set}
-use Rattle.basics.proofs.Fill.{filled_more, filled_all}
+-- The rows are the bytes of the message (`drained`), and the lowest bytes of what the registers hold are the parity of the first word (`registers_bytes`).
+use Rattle.std.proofs.Common.{rules, arith, ◌≡◌, ◌∙◌, sym, ap, length, get_or, ◌%◌}
+use Rattle.std.proofs.lemmas.List.{map-id, length-map}
+use Rattle.std.proofs.lemmas.Iterator.{YieldsList-from_slice, YieldsList-from_map}
+use Rattle.basics.proofs.Fill.{filled_all}
+use Rattle.basics.proofs.Iterators.{drained}
 use Rattle.basics.proofs.Lists.{bytes_each}
 use Rattle.basics.proofs.Numbers.{byte_at}
-use Rattle.reed_solomon.proofs.Registers.{word_in, word_at, registers_length, registers_bytes}
-use borrow.Author.Rules.{rules}
+use Rattle.reed_solomon.proofs.Registers.{word_in, word_at, registers_of, registers_length, registers_bytes}
 use Rattle.reed_solomon.proofs.parity_of.Goals as goal
-
-pub loop-j-init : goal.loop-j-init
-loop-j-init c =
-    let message = c.args.message.now in
-    (search rules, ap length c.feed-registers.ensures ∙ registers_length message, search rules, λ k h. absurd (omega arith))
-
-pub loop-j-preserved : goal.loop-j-preserved
-loop-j-preserved c =
-    let loop = c.loop-j in
-    let registers = c.feed-registers.result in (
-      search rules,
-      loop.invariant.1,
-      simp length-set loop.invariant.2,
-      filled_more (word_in 0 registers) loop.parity loop.j _ loop.invariant.3 (omega arith) (sym (word_at 0 registers loop.j)),
-    )
 
 pub returns : goal.returns
 returns c =
-    let loop = c.loop-j in
-    let fed = c.feed-registers in
     let message = c.args.message.now in
-    let size = length-map fed.result (byte_at 0) ∙ loop.invariant.1 in
-    filled_all (word_in 0 fed.result) loop.parity 16 (λ k h. loop.invariant.3 k (omega arith)) loop.invariant.2 size
-    ∙ ap (word_in 0) fed.ensures ∙ registers_bytes message (bytes_each message (λ i. omega (arith, c.type_inv.message i)))
+    let registers = c.fed-registers.result in
+    let fed = c.fed-registers.ensures in
+    let bytes = c.map-2.ensures.items in
+    let rows : fed.0 ≡ message =
+    drained fed.0 fed.1 (YieldsList-from_map _ (λ x. x) (YieldsList-from_slice message (cc)) (cc) (λ x r q k. search rules)) ∙ map-id message in
+    let held : registers ≡ registers_of message = fed.2 ∙ ap registers_of rows in
+    let size : length (word_in 0 registers) ≡ 16 = length-map registers (byte_at 0) ∙ ap length held ∙ registers_length message in
+    filled_all (word_in 0 registers) c.map-2.result 16
+    (λ k h.
+    let called = (bytes.at k 0 0 h).2 in
+    let low : get_or c.map-2.result k 0 ≡ get_or registers k 0 % 256 = search rules in
+    low ∙ sym (word_at 0 registers k))
+    bytes.long size
+    ∙ ap (word_in 0) held ∙ registers_bytes message (bytes_each message (λ i. omega (arith, c.type_inv.message i)))
