@@ -16,6 +16,16 @@ pub fn receiver(bytes: &[u8]) -> Result<(Receiver, &[u8]), Malformed> {
     Ok((Receiver { expected, held }, rest))
 }
 
+fn expected_bytes(expected: Option<Txfn>) -> [u8; 3] {
+    match expected {
+        None => [0; 3],
+        Some(number) => {
+            let [high, low] = number.0.to_be_bytes();
+            [1, high, low]
+        }
+    }
+}
+
 // The head of an answer, and behind it the frames missed 2, the packets 8, the bytes of the list 8, the state after the call.
 fn joined(head: &[u8; 25], applied: Applied) -> [u8; 54] {
     let receiver = applied.receiver;
@@ -24,10 +34,7 @@ fn joined(head: &[u8; 25], applied: Applied) -> [u8; 54] {
     answer[25..27].copy_from_slice(&applied.missed.to_be_bytes());
     answer[27..35].copy_from_slice(&applied.packets.to_be_bytes());
     answer[35..43].copy_from_slice(&applied.listed.to_be_bytes());
-    if let Some(number) = receiver.expected {
-        answer[43] = 1;
-        answer[44..46].copy_from_slice(&number.0.to_be_bytes());
-    }
+    answer[43..46].copy_from_slice(&expected_bytes(receiver.expected));
     answer[46..54].copy_from_slice(&receiver.held.to_be_bytes());
     answer
 }
