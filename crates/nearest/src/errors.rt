@@ -45,15 +45,13 @@ pub fn fix_all(own: [u8; 255], sums: [u8; 16], wrong: &Places) -> Fixed
     requires { (sums ≡ sums_of own) × Falling 255 (take wrong.now.count wrong.now.at) }
     ensures { (result.word ≡ fix_all sums [] (take wrong.now.count wrong.now.at) own) × (result.sums ≡ sums_of result.word) }
 {
-    let mut word = own;
-    let mut left = sums;
+    let mut fixed = Fixed { word: own, sums };
     for i in 0..wrong.count {
         let number = wrong.numbers[i];
         let others = wrong.others(i);
         let error = error_at(sums, number, &others[..wrong.count - 1]);
-        let next = sums_with(left, error, number);
-        left = next;
-        word[254 - wrong.at[i]] ^= error;
+        fixed.sums = sums_with(fixed.sums, error, number);
+        fixed.word[254 - wrong.at[i]] ^= error;
     }
-    Fixed { word, sums: left }
+    fixed
 }

@@ -143,8 +143,12 @@ eighth_repaired k l hk =
     ∙ ap₂ (λ (m n : ℕ). get_or (repaired_word (every_eighth 255 m l)) n 0) a b)
 
 -- whether a codeword was near each word so far
-pub all_found : (f : ℕ → Bool) (k : ℕ) (found all : Bool) → found ≡ true → found ≡ f k → all ≡ all_below k f → all ≡ all_below (k + 1) f
-all_found f k found all t e q = q ∙ ap (λ (b : Bool). b && all_below k f) (sym t ∙ e) ∙ ap (λ (n : ℕ). all_below n f) (sym (add-one k))
-
-pub all_missed : (f : ℕ → Bool) (k : ℕ) (found : Bool) → found ≡ false → found ≡ f k → false ≡ all_below (k + 1) f
-all_missed f k found t e = ap (λ (b : Bool). b && all_below k f) (sym t ∙ e) ∙ ap (λ (n : ℕ). all_below n f) (sym (add-one k))
+pub all_more : (f : ℕ → Bool) (k : ℕ) (found all : Bool) → found ≡ f k → all ≡ all_below k f → (all && found) ≡ all_below (k + 1) f
+all_more f k found all e q =
+    either all found ∙ ap₂ (λ (a b : Bool). a && b) e q ∙ ap (λ (n : ℕ). all_below n f) (sym (add-one k))
+  where
+    either : (a b : Bool) → (a && b) ≡ (b && a)
+    either true true = refl
+    either true false = refl
+    either false true = refl
+    either false false = refl

@@ -69,17 +69,15 @@ fn repair_header(body: &mut [u8; 2072], remainder: [u8; 16]) -> bool
     true
 }
 
-// The eight words of a payload repaired; and whether a codeword is near each.
+// The eight words of a payload repaired; and whether a codeword is near each. The payload is a slice with its length in a clause: as an array this part of a
+// body would be an Option, and each call would have an arm that nothing reaches.
 fn repair_words(payload: &mut [u8], remainders: [u8; 128]) -> bool
     requires { (length payload.old ≡ 2040) × (remainders ≡ entries (remainder_byte payload.old) 0 128) }
     ensures { (result ≡ words_near payload.old) × (payload.new ≡ repaired_payload payload.old) }
 {
     let mut all = true;
     for k in 0..8 {
-        let found = repair_word(payload, remainder_in(remainders, k), k);
-        if !found {
-            all = false;
-        }
+        all &= repair_word(payload, remainder_in(remainders, k), k);
     }
     all
 }

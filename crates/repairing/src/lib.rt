@@ -30,6 +30,7 @@ pub fn repair(taps: u32, part: &[u8], scratch: &mut [u8]) -> Result<u8, Refusal>
 }
 
 // 1 and 2.
+#[tactic(auto, unfolding(refusals::specs::Table::first_of, refusals::specs::Table::by, refusals::specs::Numbers::refusal_of))]
 fn judge_outer(taps: u32, part: &[u8], scratch: &[u8]) -> Result<(), Refusal>
     ensures { result ≡ judged_by (first_of (take 2 (repair_table taps part.now scratch.now))) }
 {
@@ -43,6 +44,7 @@ fn judge_outer(taps: u32, part: &[u8], scratch: &[u8]) -> Result<(), Refusal>
 }
 
 // 8 and 12.
+#[tactic(auto, unfolding(refusals::specs::Table::first_of, refusals::specs::Table::by, refusals::specs::Numbers::refusal_of))]
 fn judge_near(header: bool, words: bool) -> Result<(), Refusal>
     ensures { result ≡ judged_by (first_of (8 unless header ∷ 12 unless words ∷ [])) }
 {

@@ -7,4 +7,4 @@ use Rattle.nearest.proofs.errors.fix_all.Given as goal
 abbrev pub invariant-loop-i : goal.invariant-loop-i
 invariant-loop-i l =
     let places = take l.wrong.count l.wrong.at in
-    (length l.word ≡ 255) × (fix_all l.fn.sums (take l.i places) (drop l.i places) l.word ≡ fix_all l.fn.sums [] places l.fn.own) × (l.left ≡ sums_of l.word)
+    (length l.fixed.word ≡ 255) × (fix_all l.fn.sums (take l.i places) (drop l.i places) l.fixed.word ≡ fix_all l.fn.sums [] places l.fn.own) × (l.fixed.sums ≡ sums_of l.fixed.word)

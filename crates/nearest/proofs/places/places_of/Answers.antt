@@ -1,6 +1,6 @@
 -- From the last place down: the places found, and those below at which the values are 0, stay all such places (`places_turn`, `places_skip`). That
 -- there is room for one more is `places_room`.
-use Rattle.std.proofs.Common.{◌≡◌, ℕ, ◌-◌, ◌≤◌, ◌<◌, List, length, get_or, refl, sym, ap, ◌∙◌, subst, rules, arith}
+use Rattle.std.proofs.Common.{◌≡◌, ℕ, ◌-◌, ◌≤◌, ◌<◌, List, length, get_or, sym, ap, ◌∙◌, subst, rules, arith}
 use Rattle.field.specs.Field.{times}
 use Rattle.field.specs.Raised.{raised}
 use Rattle.nearest.specs.Search.{places, value_at}
@@ -18,9 +18,6 @@ module _ (all values polynomial : List ℕ) (numbered : (i : ℕ) → i < 256 �
 
   few : length (places 255 polynomial) ≤ 8 → length (zeros_below 255 values) ≤ 8
   few room = subst (λ l. length l ≤ 8) (sym found) room
-
-pub loop-n-init : goal.loop-n-init
-loop-n-init c = (search rules, search rules, search rules, refl, refl)
 
 pub bounds-at-count : goal.bounds-at-count
 bounds-at-count c =

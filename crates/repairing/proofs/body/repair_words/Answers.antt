@@ -12,15 +12,14 @@ use Rattle.reed_solomon.proofs.Remainders.{remainder_of_word}
 use Rattle.nearest.specs.Near.{near_word}
 use Rattle.repairing.specs.Body.{words_near}
 use Rattle.repairing.specs.Words.{with_word}
-use Rattle.repairing.proofs.Words.{with_words, words_none, words_more, words_length, word_kept, all_words, all_found, all_missed}
+use Rattle.repairing.proofs.Words.{with_words, words_none, words_more, words_length, word_kept, all_words, all_more}
 use Rattle.repairing.proofs.body.repair_words.Goals as goal
-use Rattle.repairing.proofs.body.repair_words.Goals.{then-not-found, else-not-found}
 
 pub loop-k-init : goal.loop-k-init
 loop-k-init c = (sym (words_none c.args.payload.now), refl)
 
-pub repair_word-found-requires : goal.repair_word-found-requires
-repair_word-found-requires c =
+pub repair_word-all-requires : goal.repair_word-all-requires
+repair_word-all-requires c =
     let loop = c.loop-k in
     let payload = c.args.payload.now in
     let low : loop.k < 8 = omega arith in (
@@ -34,17 +33,14 @@ pub loop-k-preserved : goal.loop-k-preserved
 loop-k-preserved c =
     let loop = c.loop-k in
     let payload = c.args.payload.now in
-    let repaired = c.repair_word-found in
+    let repaired = c.repair_word-all in
     let near : ℕ → Bool = λ k. is_some (near_word (every_eighth 255 k payload)) in
     let low : loop.k < 8 = omega arith in
     let found : repaired.result ≡ near loop.k =
     repaired.ensures.0 ∙ ap (λ l. is_some (near_word (every_eighth 255 loop.k l))) loop.invariant.0
     ∙ ap (λ w. is_some (near_word w)) (word_kept loop.k payload low) in (
       repaired.ensures.1 ∙ ap (with_word loop.k) loop.invariant.0 ∙ words_more loop.k payload,
-      elim c.if-not-found.branch [
-        | then-not-found w ↦ w.all-is ∙ all_missed near loop.k repaired.result w.if-not-found.true found
-        | else-not-found w ↦ w.all-is ∙ all_found near loop.k repaired.result loop.all w.if-not-found.false found loop.invariant.1
-      ],
+      all_more near loop.k repaired.result loop.all found loop.invariant.1,
     )
 
 pub returns : goal.returns
