@@ -16,7 +16,7 @@ use Rattle.refusals.specs.Numbers.{number_of, number_in}
 use Rattle.refusals.specs.Table.{Row, ◌when◌, ◌unless◌, first_of}
 use Rattle.refusals.specs.declared.Refusal.{Refusal}
 use Rattle.refusals.specs.declared.Refusal.TheVariants.{Taps, Size, ListPosition}
-use Rattle.refusals.proofs.Numbers.{refusal_back}
+use Rattle.refusals.proofs.Numbers.{refusal_back, number_above}
 use Rattle.refusals.proofs.Table.{numbers_of}
 use Rattle.scrambler.specs.Scrambler.{taps_allowed}
 use Rattle.header.specs.Calls.{code_table, CodeHeaderOutcome}
@@ -57,7 +57,7 @@ use Rattle.flat.specs.declared.FlatPacket.{FlatPacket}
 use Rattle.taqwelim.specs.Calls.{FreshSenderCall, PutCall, WaitingCall, NextCall, FreshReceiverCall, OpenCall, RepairCall, ApplyCall, EntryCall}
 use Rattle.taqwelim.specs.Calls.{PacketCall, CodeCall, ReadCall, LevelCall}
 use Rattle.demands.specs.Demand1.{Demand1, RefusesWith, RefusesByTable}
-use Rattle.demands.proofs.Outcomes.{among, first_among, number_above, refused_as}
+use Rattle.demands.proofs.Outcomes.{among, first_among, refused_as}
 use Rattle.demands.proofs.Demand1.{every_call_holds}
 use Rattle.demands.proofs.CallsForC.{every_call_for_c_holds}
 

@@ -13,7 +13,7 @@ use Rattle.std.specs.Prelude.{Result, Ok}
 use Rattle.refusals.specs.Table.{first_of}
 use Rattle.refusals.specs.declared.Refusal.{Refusal}
 use Rattle.lent.specs.Written.{written}
-use Rattle.refusals.proofs.Numbers.{stands}
+use Rattle.refusals.proofs.Table.{by-zero}
 use Rattle.lent.proofs.Written.{written_front}
 use Rattle.scrambler.specs.Scrambler.{taps_allowed}
 use Rattle.scrambler.proofs.Laws.{scrambled_length}
@@ -82,7 +82,7 @@ sends_so taps fields sender queue out sent queue' out' small o =
     let is_queue = parse_queue (used_in queue start used) waiting (whole_parsed (used_in queue start used) passed.whole) in
     let header = header_for sender fields waiting in
     let fits_header : header_fits header ≡ true = both_true _ (fields_fit fields) (lt-ltb sender.next.0 65536 small) passed.fits in
-    let frame : out' ≡ written out 0 (frame_bytes taps header (area_for waiting)) = o.frame ∙ sym (stands n _ out _ told.0 refl) in
+    let frame : out' ≡ written out 0 (frame_bytes taps header (area_for waiting)) = o.frame ∙ by-zero n _ out told.0 in
     let size = frame_length all_ones header taps (area_for waiting) (area_length waiting is_queue) in
     rw told.2 (record {
       area = area_for waiting;

@@ -12,6 +12,7 @@ use Rattle.refusals.specs.Numbers.{number_of}
 use Rattle.refusals.specs.Table.{Row, ◌unless◌, first_of}
 use Rattle.refusals.specs.declared.Refusal.{Refusal}
 use Rattle.refusals.specs.declared.Refusal.TheVariants.{ReceivedField}
+use Rattle.refusals.proofs.Numbers.{number_above}
 use Rattle.refusals.proofs.Table.{numbers_of}
 use Rattle.header.specs.Header.{fields_fit, header_fits}
 use Rattle.header.specs.Calls.{code_refusal}
@@ -31,7 +32,7 @@ use Rattle.flat.specs.declared.FlatApply.{FlatApply}
 use Rattle.flat.specs.declared.states.FlatReceiver.{FlatReceiver}
 use Rattle.flat.proofs.Back.{header_through_c}
 use Rattle.taqwelim.specs.Calls.{OpenCall, ApplyCall}
-use Rattle.demands.proofs.Outcomes.{among, first_among, left_out, number_above}
+use Rattle.demands.proofs.Outcomes.{among, first_among, left_out}
 use Rattle.demands.proofs.Demand2.{demand2_holds}
 
 module _ (header : Header) (area : List ℕ) (receiver : Receiver) (hold list : List ℕ) where

@@ -3,16 +3,14 @@ use mathlib.Core.Path.{◌≡◌, refl, sym, ap, subst, ◌∙◌}
 use mathlib.Core.Bool.{Bool, true, false, cond, ◌||◌}
 use mathlib.Core.List.{List, [], ◌∷◌, ◌++◌}
 use Prim.Native.Nat.{ℕ}
-use native.Mathlib.Omega.{arith}
 use lib.Dec.{eqb}
-use borrow.Author.Tests.{eq-eqb, ne_eqb}
+use borrow.Author.Tests.{eq-eqb}
 use Rattle.std.specs.Prelude.{Result, Ok, Err}
 use Rattle.refusals.specs.Numbers.{number_of, refusal_of, answer_by, number_in}
 use Rattle.refusals.specs.Table.{Row, first_of, by}
 use Rattle.refusals.specs.declared.Refusal.{Refusal}
-use Rattle.refusals.specs.declared.Refusal.TheVariants.{ListPosition}
-use Rattle.refusals.proofs.Numbers.{known, numbered, refusal_back}
-use Rattle.refusals.proofs.Table.{numbers_of, rising_from, lowest_first}
+use Rattle.refusals.proofs.Numbers.{known, numbered, refusal_back, number_above}
+use Rattle.refusals.proofs.Table.{by-above, numbers_of, rising_from, lowest_first}
 use Rattle.demands.specs.Demand1.{RefusesWith, RefusesByTable, RefusesNothing}
 
 -- whether a number is one of some
@@ -44,14 +42,6 @@ left_out [] b row e = rw e
 left_out (first ∷ a) b row e = ap (λ (n : ℕ). cond first.applies first.number n) (left_out a b row e)
 
 -- ---- what refuses with a number
-
--- no refusal has the number 0
-pub number_above : (refusal : Refusal) → number_of refusal ≡ 0 → ⊥
-unfolding refusal_of
-number_above refusal z =
-    let is : refusal ≡ ListPosition = sym (refusal_back refusal) ∙ ap refusal_of z in
-    let e : ◌≡◌ {A = ℕ} 16 0 = sym (ap number_of is) ∙ z in
-    omega arith
 
 module _ {F : Type 0} {refused : Refusal → F} {answer : F} {n : ℕ} where
   -- is the answer of that number's refusal, ..
@@ -100,8 +90,7 @@ module _ {A : Type 0} (done : A) (table : List Row) (rising : rising_from 0 (num
   left new old = by (first_of table) new old
 
   unwritten : (new old : List ℕ) → (first_of table ≡ 0 → ⊥) → left new old ≡ old
-  unfolding by
-  unwritten new old ne = rw (ne_eqb (first_of table) 0 ne)
+  unwritten new old ne = by-above (first_of table) new old ne
 
   pub one_lent : (Meets : Result A Refusal → List ℕ → Type 0) (new old : List ℕ) → Meets answer_so (left new old)
       → ((answer : Result A Refusal) (after : List ℕ) → Meets answer after → (answer ≡ answer_so) × (after ≡ left new old))

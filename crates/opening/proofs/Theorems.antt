@@ -11,7 +11,7 @@ use Rattle.basics.specs.Lists.{Bytes}
 use Rattle.lent.specs.Written.{written}
 use Rattle.refusals.specs.declared.Refusal.{Refusal}
 use Rattle.refusals.specs.Numbers.{number_in, refusal_of}
-use Rattle.refusals.proofs.Table.{accepted}
+use Rattle.refusals.proofs.Table.{by-zero}
 use Rattle.refusals.proofs.Numbers.{numbered}
 use Rattle.scrambler.specs.Scrambler.{taps_allowed}
 use Rattle.header.specs.Header.{ReservedBits, header_fits}
@@ -39,10 +39,10 @@ pub open_of_near : (taps : ℕ) (reserved : ReservedBits) (header : Header) (are
     → (r ≡ Ok record { header = header; repaired = differences came (frame_bytes_with taps reserved header area) }) × (after ≡ written before 0 area)
 open_of_near taps reserved header area came before r after t h e bytes room near outcome =
     let none = near_accepted taps reserved header area e bytes came near before t h room in (
-      outcome.answer ∙ sym (accepted 0 _ _ _ _ (sym none) refl refl)
+      outcome.answer ∙ by-zero _ _ _ none
           ∙ ap₂ (λ (x : Header) (n : ℕ). Ok (opened x n)) (near_header_lem taps reserved header area e bytes came near h)
           (near_wrong taps reserved header area e bytes came near),
-      outcome.bytes ∙ sym (accepted 0 _ _ _ _ (sym none) refl refl) ∙ ap (written before 0) (near_area taps reserved header area e bytes came near),
+      outcome.bytes ∙ by-zero _ _ _ none ∙ ap (written before 0) (near_area taps reserved header area e bytes came near),
     )
 
 -- what is known of a frame that was accepted
@@ -62,7 +62,7 @@ near_of_open taps frame before header repaired after outcome =
     let none : open_refusal taps frame before ≡ 0 = sym (open_numbers outcome) in
     let passed = open_passed taps frame before none in
     let whole = passed.0.long in
-    let answer = outcome.answer ∙ sym (accepted 0 _ _ _ _ (sym none) refl refl) in
+    let answer = outcome.answer ∙ by-zero _ _ _ none in
     let same : opened header repaired ≡ opened (opened_header taps frame) (opened_wrong taps frame) = cc answer in
     let header_is : header ≡ opened_header taps frame = ap (λ (o : Opened). o.header) same in
     let area = opened_area taps frame in
@@ -80,5 +80,5 @@ near_of_open taps frame before header repaired after outcome =
         near = near;
         counted = ap (λ (o : Opened). o.repaired) same ∙ near_wrong taps (opened_reserved taps frame) header area long bytes frame near;
       },
-      outcome.bytes ∙ sym (accepted 0 _ _ _ _ (sym none) refl refl),
+      outcome.bytes ∙ by-zero _ _ _ none,
     )

@@ -8,7 +8,7 @@ use native.Mathlib.Omega.{arith}
 use lib.ListN.{length, take, length-take}
 use Rattle.refusals.specs.Table.{first_of}
 use Rattle.lent.specs.Written.{written}
-use Rattle.refusals.proofs.Table.{accepted, kept, both_passed, first_later}
+use Rattle.refusals.proofs.Table.{by-zero, by-above, both_passed, first_later}
 use Rattle.lent.proofs.Written.{written_length}
 use Rattle.link.specs.Link.{ArePackets, Piece, Step, held_after}
 use Rattle.link.specs.Store.{layout_packets}
@@ -55,17 +55,17 @@ module _ {header : Header} {area : List ℕ} {receiver : Receiver} {hold list : 
     accepted_answer = x.answer ∙ sym (answered number _ _ z refl)
 
     pub accepted_hold : hold' ≡ written hold 0 step.held
-    accepted_hold = x.held ∙ sym (accepted number number _ _ _ refl z refl)
+    accepted_hold = x.held ∙ by-zero number _ _ z
 
     pub accepted_list : list' ≡ written list 0 (layout_packets step.out)
-    accepted_list = x.listed ∙ sym (accepted number number _ _ _ refl z refl)
+    accepted_list = x.listed ∙ by-zero number _ _ z
 
   module _ (ne : number ≡ 0 → ⊥) where
     pub refused_answer : r ≡ Err (refusal_of number)
-    refused_answer = x.answer ∙ sym (kept number number _ _ refl ne)
+    refused_answer = x.answer ∙ by-above number _ _ ne
 
     pub refused_hold : hold' ≡ hold
-    refused_hold = x.held ∙ sym (kept number number _ hold refl ne)
+    refused_hold = x.held ∙ by-above number _ hold ne
 
 -- ---- a frame that is accepted: none of the rows applies
 

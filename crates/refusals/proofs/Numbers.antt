@@ -3,6 +3,7 @@ use Prim.Native.Nat.{ℕ}
 use mathlib.Core.Bool.{Bool, true, false, false≢true, cond, ◌&&◌}
 use mathlib.Core.List.{List, [], ◌∷◌}
 use mathlib.Core.Path.{◌≡◌, refl, sym, ap, ◌∙◌}
+use native.Mathlib.Omega.{arith}
 use borrow.Author.Tests.{eqb-true, eqb-false}
 use lib.Dec.{eqb}
 use Rattle.std.specs.Prelude.{Result, Ok, Err}
@@ -72,6 +73,14 @@ refusal_back AreaSum = refl
 refusal_back Packing = refl
 refusal_back JoinedLength = refl
 refusal_back ListPosition = refl
+
+-- no refusal has the number 0
+pub number_above : (refusal : Refusal) → number_of refusal ≡ 0 → ⊥
+unfolding refusal_of
+number_above refusal z =
+    let is : refusal ≡ ListPosition = sym (refusal_back refusal) ∙ ap refusal_of z in
+    let e : ◌≡◌ {A = ℕ} 16 0 = sym (ap number_of is) ∙ z in
+    omega arith
 
 -- the numbers of a table are all the paper's
 abbrev pub known : List ℕ → Bool

@@ -1,67 +1,29 @@
--- How a call's two ways out meet a contract that goes by the refusal's number (n is the number that the code found, m the definition's); and the laws of a
--- table of refusals: how it is passed, how two stand one behind the other, and that the lowest number is given where they rise.
+-- What goes `by` a number; and the laws of a table of refusals: how it is passed, how two stand one behind the other, and that the lowest number is given
+-- where they rise.
 use Prim.Native.Nat.{ℕ, ◌<◌, ◌≤◌}
-use mathlib.Core.Bool.{Bool, true, false, cond, ◌&&◌}
+use mathlib.Core.Bool.{Bool, true, false, ◌&&◌}
 use mathlib.Core.List.{List, [], ◌∷◌, ◌++◌}
-use mathlib.Core.Path.{◌≡◌, refl, sym, ap, ◌∙◌}
+use mathlib.Core.Path.{◌≡◌, refl, sym, ◌∙◌}
 use native.Mathlib.Omega.{arith}
 use borrow.Author.Tests.{eq-eqb, ne_eqb, eqb-true, eqb-false, ltb-true, not-false}
 use lib.Dec.{eqb, ltb}
 use Rattle.basics.proofs.Tests.{left_true, right_true}
 use Rattle.refusals.specs.Table.{Row, ◌unless◌, first_of, by}
 
-module _ {A : Type 0} where
-  -- a refusal answers its number
-  pub refused : (n m : ℕ) (done : A) (answer : ℕ → A) → n ≡ m → (n ≡ 0 → ⊥) → answer n ≡ by m done (answer m)
+-- ---- by a number: what is done where it is 0, and otherwise what there was
+
+module _ {A : Type 0} (number : ℕ) (done old : A) where
+  pub by-zero : number ≡ 0 → by number done old ≡ done
   unfolding by
-  refused n m done answer e ne = rw (← e, ne_eqb n 0 ne)
+  by-zero z = rw (eq-eqb number 0 z)
 
-  -- a refusal keeps what there was
-  pub kept : (n m : ℕ) (done old : A) → n ≡ m → (n ≡ 0 → ⊥) → old ≡ by m done old
+  pub by-above : (number ≡ 0 → ⊥) → by number done old ≡ old
   unfolding by
-  kept n m done old e ne = rw (← e, ne_eqb n 0 ne)
-
-  -- with no refusal, what was done
-  pub accepted : (n m : ℕ) (done old result : A) → n ≡ m → n ≡ 0 → result ≡ done → result ≡ by m done old
-  unfolding by
-  accepted n m done old result e z q = rw (← e, eq-eqb n 0 z) q
-
-  -- an answer that goes by a number has that number, where each of its cases has its own
-  pub numbered : (number_of : A → ℕ) (done : A) (answer : ℕ → A) → number_of done ≡ 0 → ((n : ℕ) → number_of (answer n) ≡ n)
-      → (number : ℕ) → number_of (by number done (answer number)) ≡ number
-  numbered number_of done answer none each number = go (eqb number 0) refl
-    where
-      go : (t : Bool) → eqb number 0 ≡ t → number_of (by number done (answer number)) ≡ number
-      go true e =
-          let z = eqb-true number 0 e in
-          ap number_of (sym (accepted number number done (answer number) done refl z refl)) ∙ none ∙ sym z
-      go false e = ap number_of (sym (refused number number done answer refl (eqb-false number 0 e))) ∙ each number
-
--- a gate that was passed: what it tests holds, and the gates behind it were passed
-pub gate : (test : Bool) (behind number : ℕ) → 0 < number → cond test behind number ≡ 0 → (test ≡ true) × (behind ≡ 0)
-gate true behind number p e = (refl, e)
-gate false behind number p e = absurd (no_zero number p e)
-  where
-    no_zero : (k : ℕ) → 0 < k → k ≡ 0 → ⊥
-    no_zero k p e = omega arith
+  by-above ne = rw (ne_eqb number 0 ne)
 
 -- a test that passed, with those behind it
 pub with_test : {a b x : Bool} → a ≡ true → x ≡ b → x ≡ (a && b)
 with_test {a} {b} {x} p q = rw p q
-
--- ---- two numbers, the second asked where the first is 0
-
--- the first, where it is not 0
-pub refused_by : (n m other : ℕ) → n ≡ m → (n ≡ 0 → ⊥) → n ≡ by m other m
-refused_by n m other e ne = refused n m other (λ k. k) e ne
-
--- where the outcome is 0 both are
-pub both_zero : (n m : ℕ) → by n m n ≡ 0 → (n ≡ 0) × (m ≡ 0)
-both_zero n m e = go (eqb n 0) refl
-  where
-    go : (t : Bool) → eqb n 0 ≡ t → (n ≡ 0) × (m ≡ 0)
-    go true z = let zero_is = eqb-true n 0 z in (zero_is, accepted n n m n m refl zero_is refl ∙ e)
-    go false z = absurd (eqb-false n 0 z (refused_by n n m refl (eqb-false n 0 z) ∙ e))
 
 -- ---- a table of refusals
 

@@ -9,7 +9,7 @@ use lib.ListN.{length}
 use borrow.Author.Tests.{eq-eqb, lt-ltb, le-leb}
 use Rattle.basics.specs.Lists.{Bytes, is_some}
 use Rattle.refusals.specs.Table.{first_of, by}
-use Rattle.refusals.proofs.Table.{accepted}
+use Rattle.refusals.proofs.Table.{by-zero}
 use Rattle.link.specs.Link.{Packet, Queue, empty}
 use Rattle.link.specs.Store.{marked}
 use Rattle.link.specs.Parsing.{parse, packets_in, is_whole}
@@ -80,7 +80,7 @@ put_counted bytes sender packet sender' bytes' i queue outcome p s before after 
     let taken = taken_zero number sender' (put_sender sender packet) outcome.answer in
     let passed = put_passed bytes sender.start sender.used packet taken.0 in
     let mark = marked (length packet) packet in
-    let new : bytes' ≡ put_bytes bytes sender.start sender.used packet = outcome.bytes ∙ sym (accepted number number _ bytes _ refl taken.0 refl) in
+    let new : bytes' ≡ put_bytes bytes sender.start sender.used packet = outcome.bytes ∙ by-zero number _ bytes taken.0 in
     let kept = ring_length bytes sender.start sender.used mark (omega (arith, passed.long, passed.within))
     (omega (arith, passed.long, passed.room)) in
     let size : length bytes' ≡ 32768 = ap length new ∙ kept ∙ passed.long in

@@ -17,7 +17,7 @@ use Rattle.refusals.specs.Table.{◌when◌}
 use Rattle.refusals.specs.declared.Refusal.{Refusal}
 use Rattle.refusals.proofs.Numbers.{passed, answered}
 use Rattle.lent.specs.Written.{written}
-use Rattle.refusals.proofs.Table.{unless_passed, row_passed, accepted}
+use Rattle.refusals.proofs.Table.{by-zero, unless_passed, row_passed}
 use Rattle.lent.proofs.Written.{take_written}
 use Rattle.link.specs.Link.{IsPacket, Queue}
 use Rattle.link.proofs.Machine.{with_packet}
@@ -92,7 +92,7 @@ put_keeps bytes sender packet sender' bytes' outcome i l outside =
     let taken = taken_zero number sender' (put_sender sender packet) outcome.answer in
     let p = put_passed bytes start used packet taken.0 in
     let mark = marked (length packet) packet in
-    let new : bytes' ≡ put_bytes bytes start used packet = outcome.bytes ∙ sym (accepted number number _ bytes _ refl taken.0 refl) in
+    let new : bytes' ≡ put_bytes bytes start used packet = outcome.bytes ∙ by-zero number _ bytes taken.0 in
     let count : sender'.used ≡ used + length mark = ap (λ (s : Sender). s.used) taken.1 ∙ omega arith in
     ap (λ (b : List ℕ). get_or b ((start + i) % 32768) 0) new
     ∙ round_keeps bytes start used mark p.long p.within (omega (arith, p.room)) i l (⊎_elim (λ h. inl h) (λ h. inr (omega (arith, count))) outside)
@@ -111,7 +111,7 @@ put_stands bytes sender packet sender' bytes' i queue outcome p s =
     let mark = marked (length packet) packet in
     let round = round_from start bytes in
     let size : length round ≡ 32768 = round_length start bytes ∙ passed.long in
-    let new : bytes' ≡ put_bytes bytes start used packet = outcome.bytes ∙ sym (accepted number number _ bytes _ refl taken.0 refl) in
+    let new : bytes' ≡ put_bytes bytes start used packet = outcome.bytes ∙ by-zero number _ bytes taken.0 in
     let long : used + 2 + length packet ≡ used + length mark = omega arith in
     let front : used_in (put_bytes bytes start used packet) start (used + 2 + length packet) ≡ used_in bytes start used ++ mark =
     ap (take (used + 2 + length packet))

@@ -10,7 +10,7 @@ use Rattle.basics.specs.Lists.{Bytes}
 use Rattle.basics.specs.Numbers.{fits_bits}
 use Rattle.basics.proofs.Tests.{both_true}
 use Rattle.lent.specs.Written.{written}
-use Rattle.refusals.proofs.Table.{accepted}
+use Rattle.refusals.proofs.Table.{by-zero}
 use Rattle.lent.proofs.Written.{written_front}
 use Rattle.link.specs.Link.{Queue, IsQueue}
 use Rattle.link.proofs.Packing.{Opened, frame_for}
@@ -70,7 +70,7 @@ module _ (taps : ℕ) (fields : Fields) (sender : Sender) (bytes out : List ℕ)
         let number = next_refusal taps fields sender.start sender.used bytes out in
         let long = area_length queue is_queue in
         let frame : out' ≡ written out 0 (frame_bytes taps header (area_for queue)) =
-        outcome.frame ∙ sym (accepted number number _ out _ refl (not_refused outcome) refl) in
+        outcome.frame ∙ by-zero number _ out (not_refused outcome) in
         record {
           header = header;
           fits_header = both_true (fits_bits 16 sender.next.0) (fields_fit fields)

@@ -7,7 +7,7 @@ use native.Mathlib.Omega.{arith}
 use lib.ListN.{length, get_or}
 use Rattle.basics.specs.Lists.{Bytes}
 use Rattle.basics.proofs.Lists.{bytes_take}
-use Rattle.refusals.proofs.Table.{accepted}
+use Rattle.refusals.proofs.Table.{by-zero}
 use Rattle.link.specs.Link.{Queue}
 use Rattle.link.specs.Store.{layout}
 use Rattle.link.proofs.RoundTrip.{layout_back}
@@ -64,7 +64,7 @@ module _ {taps : ℕ} {fields : Fields} {sender : Sender} {bytes out : List ℕ}
   passed = next_passed taps fields start used bytes out not_refused
 
   pub ring_is : bytes' ≡ ring_written bytes (start_after start used (length (layout left))) 0 (layout left)
-  ring_is = outcome.bytes ∙ sym (accepted number number _ bytes _ refl not_refused refl)
+  ring_is = outcome.bytes ∙ by-zero number _ bytes not_refused
 
   start_is : sender'.start ≡ start_after start used (length (layout left))
   start_is = ap (λ (s : Sender). s.start) state_is

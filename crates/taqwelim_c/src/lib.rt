@@ -1,5 +1,5 @@
 // The symbols that C links: each is the function of that name in the library `taqwelim`, called as it came. include/taqwelim.h declares them.
-// Each is written out, twin of the library's, for C links it by its name; and the library has none of these names, so that only the archive exports them.
+// Each is written out beside its twin in the library: C links these by name, and only the archive exports them, not every program that uses the library.
 #![tactic(auto)]
 
 ghost use Rattle.taqwelim.specs.Calls.{FreshSenderCall, PutCall, WaitingCall, NextCall, FreshReceiverCall, OpenCall, RepairCall, ApplyCall};
