@@ -124,7 +124,7 @@ impl FastChannel {
         }
     }
 
-    // The message that a receiver reads.
+    // The message that a receiver reads. A message is two numbers, so that `From`, which would take and give them as a pair, is no plainer.
     #[tactic(auto, unfolding(crate::specs::FastChannel::message_of))]
     pub fn received(opcode: u8, payload: u16) -> FastChannel
         ensures { result ≡ message_of opcode payload }

@@ -72,7 +72,7 @@ fn field_bytes(header: Header) -> [u8; 14]
     ]
 }
 
-// The 16 bytes: the check sum stands high byte first, unlike the fields.
+// The 16 bytes: the check sum stands high byte first, unlike the fields. `From<Header>` would be no plainer: `<[u8; 16]>::from(header)` says less.
 pub fn header_bytes(header: Header) -> [u8; 16]
     ensures { result ≡ header_bytes header }
 {

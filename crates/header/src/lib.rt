@@ -30,7 +30,7 @@ impl From<FrameKind> for u8 {
     }
 }
 
-// A number above 3 is taken for 3.
+// A number above 3 is taken for 3, so that this is no `TryFrom`: a header has two bits, and `flat` gives a greater number fields that no call takes.
 impl From<u8> for FrameKind {
     ghost from_gives = { λ number kind. kind ≡ kind_of number };
 

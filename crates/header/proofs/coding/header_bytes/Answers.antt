@@ -1,6 +1,5 @@
 -- 14 bytes of fields and the two of their CRC-16 fill the 16 (`fields_length`, `written_parts`).
-use Rattle.std.proofs.Common.{◌≡◌, refl, ap, ◌∙◌, List, [], ◌∷◌, ◌++◌, ℕ, ◌+◌, length}
-use Rattle.std.proofs.Math.Nat.{div-one}
+use Rattle.std.proofs.Common.{◌≡◌, ap, ◌∙◌, ◌++◌, ◌+◌, length}
 use Rattle.basics.specs.Lists.{zeros}
 use Rattle.lent.specs.Written.{written}
 use Rattle.lent.proofs.Written.{written_parts}
