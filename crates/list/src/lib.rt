@@ -28,7 +28,7 @@ fn length_at(list: &[u8], position: usize) -> Option<usize>
 }
 
 // What stands at a position, as numbers; None at the list's end. Refusal: 16.
-#[tactic(auto, unfolding(crate::specs::Entries::entry_answer, crate::specs::Entries::entry_refusal, refusals::specs::Table::first_of, refusals::specs::Table::by, refusals::specs::Numbers::refusal_of))]
+#[tactic(auto, using(crate::proofs::Calls::at_end, crate::proofs::Calls::at_refusal, crate::proofs::Calls::at_packet))]
 pub fn entry(list: &[u8], position: usize) -> Result<Option<Place>, Refusal>
     ensures { EntryOutcome list.now position result }
 {

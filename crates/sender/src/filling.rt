@@ -21,7 +21,7 @@ pub struct Filled {
 }
 
 // Writes records of the waiting packets into an area of zeros: while one waits and 3 or more bytes remain, as much of it as fits.
-pub fn fill(queue: &[u8], sender: Sender, area: &mut [u8]) -> Filled
+pub fn fill(queue: &[u8], sender: Sender, area: &mut [u8; sizes::AREA_SIZE]) -> Filled
     requires { (sender.start ≤ length queue.now) × (sender.used ≤ length queue.now)
         × (is_whole (used_in queue.now sender.start sender.used) ≡ true) × (area.old ≡ zeros area_size) }
     ensures { FillOutcome (used_in queue.now sender.start sender.used) result area.new }
