@@ -1,12 +1,12 @@
--- The number that bytes of a buffer hold; the bytes of a list of numbers, place by place and as a loop writes them.
-use mathlib.Core.Path.{◌≡◌, refl, sym, ap, ap₂, ◌∙◌}
+-- Eight bytes and their number, as the code writes them out; the bytes of a list of numbers, place by place and as a loop writes them.
+use mathlib.Core.Path.{◌≡◌, refl, sym, ap, ◌∙◌}
 use mathlib.Core.List.{List, [], ◌∷◌, ◌++◌, append_assoc, append-nil}
-use Prim.Native.Nat.{ℕ, zero, suc, ◌+◌, ◌-◌, ◌*◌, ◌≤◌, ◌<◌}
-use native.Mathlib.Nat.{zero-add, add-zero, add-suc, suc-add}
+use Prim.Native.Nat.{ℕ, zero, suc, ◌+◌, ◌*◌, ◌≤◌, ◌<◌}
+use native.Mathlib.Nat.{zero-add}
 use native.Mathlib.Numerals.{add-one}
 use native.Mathlib.Omega.{arith}
-use lib.ListN.{length, get_or, take, drop, length-append, get_or-append}
-use lib.Seq.{take-suc, length-take-le, get_or-append-add, get_or-drop, get_or-take}
+use lib.ListN.{length, get_or, take, length-append, get_or-append}
+use lib.Seq.{take-suc, length-take-le, get_or-append-add}
 use Rattle.basics.specs.Numbers.{low_first, number_at}
 use Rattle.basics.proofs.Numbers.{byte_at, byte_zero, low_at}
 use Rattle.lent.specs.Written.{written}
@@ -15,23 +15,18 @@ use Rattle.lent.proofs.Written.{written_append}
 
 -- ---- one number
 
-number_same : (l m : List ℕ) (i j n : ℕ) → ((k : ℕ) → k < n → get_or l (i + k) 0 ≡ get_or m (j + k) 0) → number_at i n l ≡ number_at j n m
-number_same l m i j zero h = refl
-number_same l m i j (suc n) h =
-    ap₂ (λ (b x : ℕ). b + 256 * x)
-    (ap (λ (k : ℕ). get_or l k 0) (sym (add-zero i)) ∙ h 0 (omega arith) ∙ ap (λ (k : ℕ). get_or m k 0) (add-zero j))
-    (number_same l m (suc i) (suc j) n (λ k lt.
-    ap (λ (p : ℕ). get_or l p 0) (suc-add i k ∙ sym (add-suc i k)) ∙ h (suc k) (omega arith)
-    ∙ ap (λ (p : ℕ). get_or m p 0) (add-suc j k ∙ sym (suc-add j k))))
-
--- the number that n bytes of a buffer hold, which code takes out of it
-pub number_of_part : (bytes part : List ℕ) (at n : ℕ) → part ≡ take n (take (length bytes - at) (drop at bytes)) → at + n ≤ length bytes
-    → number_at 0 n part ≡ number_at at n bytes
-number_of_part bytes part at n e h =
-    number_same part bytes 0 at n (λ k lt.
-    ap₂ (λ (l : List ℕ) (i : ℕ). get_or l i 0) e (zero-add k)
-    ∙ get_or-take n (take (length bytes - at) (drop at bytes)) k 0 lt
-    ∙ get_or-take (length bytes - at) (drop at bytes) k 0 (omega arith) ∙ get_or-drop at bytes k 0)
+pub number_at_lem : (l : List ℕ) (at : ℕ)
+    → get_or l at 0 + 256 * (get_or l (at + 1) 0 + 256 * (get_or l (at + 2) 0 + 256 * (get_or l (at + 3) 0 + 256 * (get_or l (at + 4) 0
+    + 256 * (get_or l (at + 5) 0 + 256 * (get_or l (at + 6) 0 + 256 * (get_or l (at + 7) 0 + 256 * 0))))))) ≡ number_at at 8 l
+number_at_lem l at =
+    let e1 : at + 1 ≡ suc at = omega arith in
+    let e2 : at + 2 ≡ suc (suc at) = omega arith in
+    let e3 : at + 3 ≡ suc (suc (suc at)) = omega arith in
+    let e4 : at + 4 ≡ suc (suc (suc (suc at))) = omega arith in
+    let e5 : at + 5 ≡ suc (suc (suc (suc (suc at)))) = omega arith in
+    let e6 : at + 6 ≡ suc (suc (suc (suc (suc (suc at))))) = omega arith in
+    let e7 : at + 7 ≡ suc (suc (suc (suc (suc (suc (suc at)))))) = omega arith in
+    rw (e1, e2, e3, e4, e5, e6, e7)
 
 -- ---- a list of numbers
 

@@ -4,13 +4,21 @@ ghost use Rattle.basics.specs.Numbers.{low_first, number_at};
 ghost use Rattle.lent.specs.Written.{written};
 ghost use Rattle.lent.specs.Numbers.{bytes_of};
 
-// The number that the eight bytes from index at on hold.
+// The number that the eight bytes from index at on hold. Each is named, since a test of the length would stay in `first_chunk().unwrap()`.
 pub fn number_at(bytes: &[u8], at: usize) -> u64
     requires { at + 8 ≤ length bytes.now }
     ensures { result ≡ number_at at 8 bytes.now }
 {
-    let eight = bytes[at..].first_chunk::<8>().unwrap();
-    u64::from_le_bytes(*eight)
+    u64::from_le_bytes([
+        bytes[at],
+        bytes[at + 1],
+        bytes[at + 2],
+        bytes[at + 3],
+        bytes[at + 4],
+        bytes[at + 5],
+        bytes[at + 6],
+        bytes[at + 7],
+    ])
 }
 
 // Writes a number's eight bytes from index at on.

@@ -20,7 +20,7 @@ pub fn generator() -> [u8; 17]
     GENERATOR
 }
 
-// What registers of zeros hold after some rows. It is made anew where it is called: as a function of its own it would spill two more registers a row.
+// What registers of zeros hold after some rows. It is compiled into its callers: left to the compiler it takes two instructions more for each row.
 #[inline(always)]
 pub fn fed<I: Iterator<Item = u64> + Drop>(rows: I) -> [u64; 16]
     requires can { I.can_next rows }

@@ -1,12 +1,13 @@
--- The eight bytes are the buffer's from there on (`number_of_part`), and what the library makes of them is their number.
-use Rattle.std.proofs.Common.{◌≡◌, ◌∙◌, arith}
-use Rattle.basics.specs.Numbers.{number_at}
-use Rattle.lent.proofs.Bytes.{number_of_part}
+-- Eight bytes, each worth 256 times the one before, are the number that stands there (`number_at_lem`).
+use Rattle.std.proofs.Common.{◌≡◌, ◌∙◌, ◌+◌, ◌*◌, get_or, arith}
+use Rattle.lent.proofs.Bytes.{number_at_lem}
 use Rattle.lent.proofs.numbers.number_at.Goals as goal
 
 pub returns : goal.returns
 returns c =
-    let part = rw (c.unwrap-eight.ensures) at c.first_chunk.ensures.cases in
-    let word = c.unwrap-eight.result.now in
-    let own : c.from_le_bytes.result ≡ number_at 0 8 word = omega (arith, c.from_le_bytes.ensures) in
-    own ∙ number_of_part c.args.bytes.now word c.args.at 8 part.same c.requires
+    let at = c.args.at in
+    let b = c.args.bytes.now in
+    let nested : c.from_le_bytes.result
+      ≡ get_or b at 0 + 256 * (get_or b (at + 1) 0 + 256 * (get_or b (at + 2) 0 + 256 * (get_or b (at + 3) 0 + 256 * (get_or b (at + 4) 0
+      + 256 * (get_or b (at + 5) 0 + 256 * (get_or b (at + 6) 0 + 256 * (get_or b (at + 7) 0 + 256 * 0))))))) = omega (arith, c.from_le_bytes.ensures) in
+    nested ∙ number_at_lem b at
