@@ -12,7 +12,6 @@ mod SumLaws
 mod Complete
 mod Check
 mod ByWord
-pub mod FromFn
 mod Arrays
 mod SumTurns
 mod LocatingTurns

@@ -4,7 +4,7 @@ use Rattle.std.specs.Int.Bits.{bit_xor}
 use Rattle.basics.proofs.Fill.{filled_all}
 use Rattle.field.specs.Field.{times}
 use Rattle.nearest.specs.Search.{mix}
-use Rattle.nearest.proofs.FromFn.{made_each}
+use Rattle.basics.proofs.Iterators.{from_fn_at}
 use Rattle.nearest.proofs.LocatingTurns.{mix_at, mix_long}
 use Rattle.nearest.proofs.locating.mix_rows.Goals as goal
 
@@ -17,7 +17,7 @@ returns c =
     let p = c.scaled-p in
     let q = c.scaled-q in
     let P : ℕ → ℕ → Type 0 = λ i b. b ≡ bit_xor (get_or p.result i 0) (get_or q.result i 0) in
-    let each = made_each _ P _ 9 (λ k b f l call. search rules) c.from_fn.result c.from_fn.ensures.items in
+    let each = from_fn_at _ _ P 9 (λ k b f l call. search rules) c.from_fn.result c.from_fn.ensures.items in
     let long_row : length row ≡ 9 = search rules in
     let long_other : length other ≡ 9 = search rules in
     filled_all (mix x row y other) c.from_fn.result 9
