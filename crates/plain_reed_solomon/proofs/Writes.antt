@@ -1,20 +1,26 @@
 -- The eight writes of the plain form, one for each word, give the coded payload; and the word that it gathers is judged as the payload's.
-use mathlib.Core.Path.{◌≡◌, refl, sym, ap, ◌∙◌}
+use mathlib.Core.Path.{◌≡◌, refl, sym, ap, ◌∙◌, subst}
+use mathlib.Core.Bool.{Bool, true, false, false≢true}
 use mathlib.Core.Logic.{⊎_elim}
 use mathlib.Core.List.{List}
 use Prim.Native.Nat.{ℕ, zero, suc, ◌+◌, ◌*◌, ◌≤◌, ◌<◌}
-use native.Mathlib.Nat.{not-suc-le-zero, le_of_suc-le-suc, eq-or-lt_of_le}
+use native.Mathlib.Nat.{zero-add, not-suc-le-zero, le_of_suc-le-suc, eq-or-lt_of_le}
 use native.Mathlib.Numerals.{add-one}
 use native.Mathlib.Omega.{arith}
 use lib.Dec.{lit≤}
+use Rattle.std.proofs.Common.{zero-le}
+use Rattle.std.specs.Bool.{MatchBool}
+use Rattle.std.specs.List.{AllWithin, HoldsAt, range_with_len}
+use Rattle.std.proofs.lemmas.List.FromFn.{get_or-range_with_len}
+use Rattle.basics.proofs.Tests.{never_true}
 use lib.ListN.{length, get_or, take}
 use lib.Seq.{length-take-le, get_or-take}
 use Rattle.reed_solomon.specs.Code.{parity, is_codeword, lengthened}
-use Rattle.reed_solomon.specs.Payload.{every_eighth, coded_payload}
+use Rattle.reed_solomon.specs.Payload.{every_eighth, coded_payload, are_codewords}
 use Rattle.reed_solomon.specs.Rows.{spread}
 use Rattle.plain_reed_solomon.specs.Word.{with_parity}
-use Rattle.reed_solomon.proofs.Laws.{parity_length, lengthened_whole}
-use Rattle.reed_solomon.proofs.Interleaved.{eighth_length, eighth_same, coded_by_places}
+use Rattle.reed_solomon.proofs.Laws.{parity_length, lengthened_whole, codeword_true, true_codeword}
+use Rattle.reed_solomon.proofs.Interleaved.{eighth_length, eighth_same, coded_by_places, codewords_true, true_codewords}
 use Rattle.reed_solomon.proofs.Spread.{spread_length, spread_below, spread_at, spread_other}
 
 -- ---- the eight writes: the parities of the words below n are written
@@ -73,3 +79,21 @@ all_parities l long =
 pub in_code : (l : List ℕ) (k : ℕ) (gathered : List ℕ) → gathered ≡ every_eighth 255 k l
     → is_codeword (lengthened gathered) ≡ is_codeword (every_eighth 255 k l)
 in_code l k gathered e = ap is_codeword (ap lengthened e ∙ lengthened_whole (every_eighth 255 k l) (eighth_length 255 k l))
+
+-- a test of each of the eight words, as code makes it
+pub codewords_test : (r : Bool) (l : List ℕ) → length l ≡ 2040
+    → MatchBool r (AllWithin (λ k. is_codeword (every_eighth 255 k l) ≡ true) (range_with_len 0 8) 0 8)
+    ((k : ℕ) × (k < 8) × HoldsAt (λ k. is_codeword (every_eighth 255 k l) ≡ false) (range_with_len 0 8) k)
+    → r ≡ are_codewords l
+codewords_test true l long all =
+    sym (codewords_true l (record {
+      long = long;
+      each = λ k h.
+          true_codeword _
+          (subst (λ (j : ℕ). is_codeword (every_eighth 255 j l) ≡ true) (get_or-range_with_len 0 8 k 0 h ∙ zero-add k) (all k 0 zero-le h));
+    }))
+codewords_test false l long some =
+    let k = some.0 in
+    let none : is_codeword (every_eighth 255 k l) ≡ false =
+    subst (λ (j : ℕ). is_codeword (every_eighth 255 j l) ≡ false) (get_or-range_with_len 0 8 k 0 some.1 ∙ zero-add k) (some.2 0) in
+    never_true (are_codewords l) (λ e. false≢true (sym none ∙ codeword_true _ ((true_codewords l e).each k some.1)))

@@ -19,6 +19,7 @@ pub fn parity_of(message: &[u8]) -> [u8; 16]
     let coefficients = register::generator();
     let mut register = [0u8; 16];
     for byte in message {
+        // With no `next`, "the borrow checker does not cover this function yet".
         let next = shift(&coefficients, register, *byte);
         register = next;
     }
@@ -66,16 +67,7 @@ pub fn write_parity(payload: &mut [u8])
 pub fn are_codewords(payload: &[u8]) -> bool
     ensures { result ≡ are_codewords payload.now }
 {
-    if payload.len() != 2040 {
-        return false;
-    }
-    for k in 0..8 {
-        let word = interleaving::gathered(payload, k);
-        if !is_codeword(&word) {
-            return false;
-        }
-    }
-    true
+    payload.len() == 2040 && (0..8).all(|k| is_codeword(&interleaving::gathered(payload, k)))
 }
 
 // Writes the parity of word k.

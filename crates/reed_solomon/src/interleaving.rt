@@ -1,4 +1,5 @@
 // The eight interleaved words of the Reed-Solomon code in a payload of 2,040 bytes: eight neighbours are a row, with a byte of each word.
+// A payload is lent as a part of a longer buffer: as an array each caller would have to test the length that its contract proves.
 ghost use Rattle.std.specs.Prelude.{◌≡◌, ◌<◌, length, take};
 ghost use Rattle.basics.specs.Lists.{entries};
 ghost use Rattle.reed_solomon.specs.Payload.{every_eighth, parity_byte, coded_payload};

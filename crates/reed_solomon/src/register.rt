@@ -29,6 +29,7 @@ pub fn fed<I: Iterator<Item = u64> + Drop>(rows: I) -> [u64; 16]
 {
     let mut registers = [0; 16];
     for row in rows {
+        // With no `next`, "the borrow checker does not cover this function yet".
         let next = shift(registers, row);
         registers = next;
     }

@@ -4,7 +4,6 @@ use mathlib.Core.Path.{sym, ap, ◌∙◌}
 use lib.ListN.{length}
 use Rattle.plain_reed_solomon.specs.Word.{with_parity}
 use Rattle.plain_reed_solomon.proofs.Writes.{with_parities, parities_none, parities_more, parities_length, all_parities}
-use borrow.Author.Rules.{rules}
 use Rattle.plain_reed_solomon.proofs.write_parity.Goals as goal
 
 pub loop-k-init : goal.loop-k-init

@@ -1,6 +1,5 @@
 -- Word by word: the parities of the words before k are written (`parities_more`), and with all eight the payload is the coded one (`all_parities`).
 use mathlib.Core.Path.{◌≡◌}
-use Prim.Native.Nat.{◌≤◌}
 use Rattle.plain_reed_solomon.proofs.Writes.{with_parities}
 use Rattle.plain_reed_solomon.proofs.write_parity.Given as goal
 

@@ -1,6 +1,6 @@
 -- Byte by byte: the parity bytes left, spread over what is written so far, give what spreading all gives (`spread_turn`); in the end none is left.
 use mathlib.Core.Path.{◌≡◌}
-use Prim.Native.Nat.{◌+◌, ◌*◌, ◌≤◌}
+use Prim.Native.Nat.{◌+◌, ◌*◌}
 use lib.ListN.{length, drop}
 use Rattle.reed_solomon.specs.Rows.{spread}
 use Rattle.plain_reed_solomon.specs.Word.{with_parity}
