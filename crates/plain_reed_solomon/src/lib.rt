@@ -67,7 +67,7 @@ pub fn write_parity(payload: &mut [u8])
 pub fn are_codewords(payload: &[u8]) -> bool
     ensures { result ≡ are_codewords payload.now }
 {
-    payload.len() == 2040 && (0..8).all(|k| is_codeword(&interleaving::gathered(payload, k)))
+    payload.len() == 2040 && (0..8).all(|k| is_codeword(&interleaving::gathered::<255>(payload, k)))
 }
 
 // Writes the parity of word k.
@@ -75,7 +75,7 @@ fn write_word(payload: &mut [u8], k: usize)
     requires { (k < 8) × (length payload.old ≡ 2040) }
     ensures { payload.new ≡ with_parity k payload.old }
 {
-    let word = interleaving::gathered(payload, k);
+    let word = interleaving::gathered::<255>(payload, k);
     let parity = parity_of(&word[..239]);
     for j in 0..16 {
         payload[1912 + k + 8 * j] = parity[j];

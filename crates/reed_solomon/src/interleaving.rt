@@ -1,13 +1,12 @@
 // The eight interleaved words of the Reed-Solomon code in a payload of 2,040 bytes: eight neighbours are a row, with a byte of each word.
 // A payload is lent as a part of a longer buffer: as an array each caller would have to test the length that its contract proves.
-ghost use Rattle.std.specs.Prelude.{◌≡◌, ◌<◌, length, take};
+ghost use Rattle.std.specs.Prelude.{◌≡◌, ◌*◌, ◌<◌, length, take};
 ghost use Rattle.basics.specs.Lists.{entries};
 ghost use Rattle.reed_solomon.specs.Payload.{every_eighth, parity_byte, coded_payload};
 ghost use Rattle.reed_solomon.specs.Rows.{remainder_byte};
 
 use crate::register;
 use lent::numbers;
-use std::array;
 
 // Writes the 128 parity bytes of the eight words behind the 1,912 bytes of data.
 pub fn write_parity(payload: &mut [u8])
@@ -27,12 +26,16 @@ pub fn remainders(payload: &[u8]) -> [u8; 128]
     crate::plus(parity_bytes(data), last)
 }
 
-// Word k: every eighth byte.
-pub fn gathered(payload: &[u8], k: usize) -> [u8; 255]
-    requires { (k < 8) × (length payload.now ≡ 2040) }
-    ensures { result ≡ every_eighth 255 k payload.now }
+// Every eighth byte from k on: word k of a payload, or what division leaves of it.
+pub fn gathered<const N: usize>(bytes: &[u8], k: usize) -> [u8; N]
+    requires { (k < 8) × (length bytes.now ≡ 8 * N) }
+    ensures { result ≡ every_eighth N k bytes.now }
 {
-    array::from_fn(|i| payload[k + 8 * i])
+    let mut word = [0; N];
+    for i in 0..N {
+        word[i] = bytes[k + 8 * i];
+    }
+    word
 }
 
 // The parity bytes of the eight words of 1,912 bytes of data.

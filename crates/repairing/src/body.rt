@@ -77,17 +77,10 @@ fn repair_words(payload: &mut [u8], remainders: [u8; 128]) -> bool
 {
     let mut all = true;
     for k in 0..8 {
-        all &= repair_word(payload, remainder_in(remainders, k), k);
+        let remainder = interleaving::gathered(&remainders, k);
+        all &= repair_word(payload, remainder, k);
     }
     all
-}
-
-// What division leaves of word k: every eighth byte.
-fn remainder_in(remainders: [u8; 128], k: usize) -> [u8; 16]
-    requires { k < 8 }
-    ensures { result ≡ every_eighth 16 k remainders }
-{
-    std::array::from_fn(|j| remainders[k + 8 * j])
 }
 
 // Word k repaired where it stands; and whether a codeword is near it. A word of which division leaves nothing is not searched.

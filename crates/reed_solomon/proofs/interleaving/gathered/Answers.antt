@@ -1,17 +1,28 @@
--- Byte by byte (`from_fn_at`): each is every eighth of the payload from k on (`eighth_at`).
-use Rattle.std.proofs.Common.{rules, ◌≡◌, ◌∙◌, sym, ◌+◌, ◌*◌, get_or}
-use Rattle.basics.proofs.Iterators.{from_fn_at}
-use Rattle.basics.proofs.Fill.{filled_all}
+-- Byte by byte: each is every eighth from k on (`eighth_at`), so that all N are.
+use Rattle.std.proofs.Common.{◌≡◌, length, rules, arith, sym}
+use lib.ListN.{length-replicate, length-set}
+use Rattle.basics.proofs.Fill.{filled_more, filled_all}
 use Rattle.reed_solomon.specs.Payload.{every_eighth}
 use Rattle.reed_solomon.proofs.Interleaved.{eighth_at, eighth_length}
 use Rattle.reed_solomon.proofs.interleaving.gathered.Goals as goal
 
-pub returns : goal.returns
-returns c =
+pub loop-i-init : goal.loop-i-init
+loop-i-init g c = (length-replicate g.row.N 0, λ j h. absurd (omega arith))
+
+pub loop-i-preserved : goal.loop-i-preserved
+loop-i-preserved g c =
+    let n = g.row.N in
     let k = c.args.k in
-    let payload = c.args.payload.now in
-    let items = c.from_fn.ensures.items in
-    filled_all (every_eighth 255 k payload) c.from_fn.result 255
-    (λ i h. from_fn_at _ _ (λ i y. y ≡ get_or payload (k + 8 * i) 0) 255 (λ i y q h called. search rules) c.from_fn.result items i 0 h
-    ∙ sym (eighth_at 255 k payload i h))
-    items.long (eighth_length 255 k payload)
+    let bytes = c.args.bytes.now in
+    let loop = c.loop-i in (
+      simp length-set loop.invariant.0,
+      filled_more (every_eighth n k bytes) loop.word loop.i _ loop.invariant.1 (omega arith) (sym (eighth_at n k bytes loop.i (omega arith))),
+    )
+
+pub returns : goal.returns
+returns g c =
+    let n = g.row.N in
+    let k = c.args.k in
+    let bytes = c.args.bytes.now in
+    let loop = c.loop-i in
+    filled_all (every_eighth n k bytes) loop.word n (λ j h. loop.invariant.1 j (omega arith)) loop.invariant.0 (eighth_length n k bytes)

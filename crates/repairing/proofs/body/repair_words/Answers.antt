@@ -25,7 +25,7 @@ repair_word-all-requires c =
     let low : loop.k < 8 = omega arith in (
       low,
       ap length loop.invariant.0 ∙ words_length loop.k payload ∙ c.requires.0,
-      c.remainder_in.ensures ∙ ap (every_eighth 16 loop.k) c.requires.1 ∙ remainder_of_word payload loop.k low
+      c.gathered-remainder.ensures ∙ ap (every_eighth 16 loop.k) c.requires.1 ∙ remainder_of_word payload loop.k low
           ∙ sym (ap (λ l. remainder_of (every_eighth 255 loop.k l)) loop.invariant.0 ∙ ap remainder_of (word_kept loop.k payload low)),
     )
 
