@@ -19,7 +19,7 @@ drained items d yields = sym (map-id items) ∙ items_from_drains items (d.1.0, 
 
 -- ---- `array::from_fn`, of a closure that keeps what it captures: a large array, whose calls no search goes through one by one
 module _ {F B : Type 0} (g : Mut F (ℕ × Unit {0}) B) (f : F) (P : ℕ → B → Type 0) (n : ℕ)
-  (call : (i : ℕ) (y : B) (q : F) → i < n → Called g f (i, tt) y q → (q ≡ f) × P i y) where
+    (call : (i : ℕ) (y : B) (q : F) → i < n → Called g f (i, tt) y q → (q ≡ f) × P i y) where
   each_from : (ys : List B) (i m k : ℕ) (d : B) → i + m ≤ n → IsFromFnResultFrom g f ys i m → k < m → P (i + k) (get_or ys (i + k) d)
   each_from ys i zero k d le r h = absurd (not-suc-le-zero h)
   each_from ys i (suc m) zero d le r h =

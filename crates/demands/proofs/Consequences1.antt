@@ -15,7 +15,7 @@ use Rattle.std.specs.Prelude.{Option, Result, Err}
 use Rattle.refusals.specs.Numbers.{number_of, number_in}
 use Rattle.refusals.specs.Table.{Row, ◌when◌, ◌unless◌, first_of}
 use Rattle.refusals.specs.declared.Refusal.{Refusal}
-use Rattle.refusals.specs.declared.Refusal.TheVariants.{Taps, Size, ListPosition}
+use Rattle.refusals.specs.declared.Refusal.TheVariants.{Taps, Length, ListEntry}
 use Rattle.refusals.proofs.Numbers.{refusal_back, number_above}
 use Rattle.refusals.proofs.Table.{numbers_of}
 use Rattle.scrambler.specs.Scrambler.{taps_allowed}
@@ -105,13 +105,13 @@ numbers_of_entry list position = refl
 -- ---- the library's calls: without bytes, or with tap 0 clear
 
 pub put_refused : (sender : Sender) (packet : List ℕ) (answer : Result Sender Refusal) (after : List ℕ) → PutOutcome [] sender packet answer after
-    → (answer ≡ Err Size) × (after ≡ [])
+    → (answer ≡ Err Length) × (after ≡ [])
 unfolding first_of
-put_refused sender packet = first_given (every_call_holds.put [] sender packet) Size refl
+put_refused sender packet = first_given (every_call_holds.put [] sender packet) Length refl
 
-pub waiting_refused : (sender : Sender) (answer : Result Counted Refusal) → WaitingOutcome [] sender answer → answer ≡ Err Size
+pub waiting_refused : (sender : Sender) (answer : Result Counted Refusal) → WaitingOutcome [] sender answer → answer ≡ Err Length
 unfolding first_of
-waiting_refused sender answer o = (first_given (every_call_holds.waiting [] sender) Size refl answer tt o).0
+waiting_refused sender answer o = (first_given (every_call_holds.waiting [] sender) Length refl answer tt o).0
 
 pub next_refused : (fields : Fields) (sender : Sender) (queue out : List ℕ) (answer : Result Sent Refusal) (after : List ℕ × List ℕ)
     → NextOutcome 0 fields sender queue out answer after.0 after.1 → (answer ≡ Err Taps) × (after ≡ (queue, out))
@@ -137,22 +137,22 @@ shown_none refusal part scratch r o =
     ((every_call_holds.shown (Err refusal) part scratch).one_outcome r ([], part.ref_ptr) tt tt o (refl, refl)).0
 
 pub apply_refused : (header : Header) (receiver : Receiver) (hold list : List ℕ) (answer : Result Applied Refusal) (after : List ℕ × List ℕ)
-    → ApplyOutcome header [] receiver hold list answer after.0 after.1 → (answer ≡ Err Size) × (after ≡ (hold, list))
+    → ApplyOutcome header [] receiver hold list answer after.0 after.1 → (answer ≡ Err Length) × (after ≡ (hold, list))
 unfolding first_of
-apply_refused header receiver hold list = first_given (every_call_holds.apply header [] receiver hold list) Size refl
+apply_refused header receiver hold list = first_given (every_call_holds.apply header [] receiver hold list) Length refl
 
 pub code_refused : (header : Header) (answer : Result (Unit {0}) Refusal) (after : List ℕ)
-    → CodeHeaderOutcome header [] answer after → (answer ≡ Err Size) × (after ≡ [])
+    → CodeHeaderOutcome header [] answer after → (answer ≡ Err Length) × (after ≡ [])
 unfolding first_of
-code_refused header = first_given (every_call_holds.code_header header []) Size refl
+code_refused header = first_given (every_call_holds.code_header header []) Length refl
 
-pub read_refused : (answer : Result Header Refusal) → ReadHeaderOutcome [] answer → answer ≡ Err Size
+pub read_refused : (answer : Result Header Refusal) → ReadHeaderOutcome [] answer → answer ≡ Err Length
 unfolding first_of
-read_refused answer o = (first_given (every_call_holds.read []) Size refl answer tt o).0
+read_refused answer o = (first_given (every_call_holds.read []) Length refl answer tt o).0
 
-pub entry_refused : (answer : Result (Option Place) Refusal) → EntryOutcome [] 1 answer → answer ≡ Err ListPosition
+pub entry_refused : (answer : Result (Option Place) Refusal) → EntryOutcome [] 1 answer → answer ≡ Err ListEntry
 unfolding first_of length_at
-entry_refused answer o = (first_given (every_call_holds.entry [] 1) ListPosition refl answer tt o).0
+entry_refused answer o = (first_given (every_call_holds.entry [] 1) ListEntry refl answer tt o).0
 
 -- there is one answer (`one_outcome`): no bytes of an empty list, and the level of 255
 pub packet_none : (from : ℕ × ℕ) (part : List ℕ) (at : ℕ × ℕ) → PacketOutcome [] from 0 part at → part ≡ []
@@ -185,9 +185,9 @@ module _ {A B : Type 0} {Meets : Result A Refusal → B → Type 0} {before : B}
 
 -- .. applying never refuses with 16, ..
 pub never_16 : (header : Header) (area : List ℕ) (receiver : Receiver) (hold list hold' list' : List ℕ)
-    → ApplyOutcome header area receiver hold list (Err ListPosition) hold' list' → ⊥
+    → ApplyOutcome header area receiver hold list (Err ListEntry) hold' list' → ⊥
 never_16 header area receiver hold list hold' list' o =
-    never_given (every_call_holds.apply header area receiver hold list) 16 (λ z. omega arith) refl (Err ListPosition) (hold', list') o refl
+    never_given (every_call_holds.apply header area receiver hold list) 16 (λ z. omega arith) refl (Err ListEntry) (hold', list') o refl
 
 -- .. and 10 is never given (02, M-100): not by open or apply, and not by read_header
 pub never_10 : (header : Header) (area : List ℕ) (receiver : Receiver) (hold list : List ℕ) (answer : Result Applied Refusal) (hold' list' : List ℕ)
@@ -212,11 +212,11 @@ never_0 queue sender packet answer after o h = ((every_call_holds.put queue send
 pub c_put_refused : (sender : FlatSender) (packet : List ℕ) (r : FlatPut) (after : List ℕ) → PutCall [] sender packet r after
     → r ≡ record { sender = sender; refusal = 2 }
 unfolding first_of
-c_put_refused sender packet r after o = (first_given (every_call_for_c_holds.put [] sender packet) Size refl r after o).0
+c_put_refused sender packet r after o = (first_given (every_call_for_c_holds.put [] sender packet) Length refl r after o).0
 
 pub c_waiting_refused : (sender : FlatSender) (r : FlatWaiting) → WaitingCall [] sender r → r ≡ record { packets = 0; bytes = 0; refusal = 2 }
 unfolding first_of
-c_waiting_refused sender r o = (first_given (every_call_for_c_holds.waiting [] sender) Size refl r tt o).0
+c_waiting_refused sender r o = (first_given (every_call_for_c_holds.waiting [] sender) Length refl r tt o).0
 
 pub c_next_refused : (fields : FlatFields) (sender : FlatSender) (queue out : List ℕ) (r : FlatNext) (queue' out' : List ℕ)
     → NextCall 0 fields sender queue out r queue' out' → r ≡ record { sender = sender; kind = 0; refusal = 1 }
@@ -237,19 +237,19 @@ pub c_apply_refused : (header : FlatHeader) (receiver : FlatReceiver) (hold list
     → ApplyCall header [] receiver hold list r hold' list' → r ≡ record { receiver = receiver; packets = 0; listed = 0; missed = 0; refusal = 2 }
 unfolding first_of
 c_apply_refused header receiver hold list r hold' list' o =
-    (first_given (every_call_for_c_holds.apply header [] receiver hold list) Size refl r (hold', list') o).0
+    (first_given (every_call_for_c_holds.apply header [] receiver hold list) Length refl r (hold', list') o).0
 
 pub c_entry_refused : (r : FlatEntry) → EntryCall [] 1 r → r ≡ record { start = 0; length = 0; next = 0; found = 0; refusal = 16 }
 unfolding first_of length_at
-c_entry_refused r o = (first_given (every_call_for_c_holds.entry [] 1) ListPosition refl r tt o).0
+c_entry_refused r o = (first_given (every_call_for_c_holds.entry [] 1) ListEntry refl r tt o).0
 
 pub c_code_refused : (header : FlatHeader) (r : FlatCode) (after : List ℕ) → CodeCall header [] r after → r ≡ record { refusal = 2 }
 unfolding first_of
-c_code_refused header r after o = (first_given (every_call_for_c_holds.code_header header []) Size refl r after o).0
+c_code_refused header r after o = (first_given (every_call_for_c_holds.code_header header []) Length refl r after o).0
 
 pub c_read_refused : (r : FlatRead) → ReadCall [] r → r ≡ record { header = no_header; refusal = 2 }
 unfolding first_of
-c_read_refused r o = (first_given (every_call_for_c_holds.read []) Size refl r tt o).0
+c_read_refused r o = (first_given (every_call_for_c_holds.read []) Length refl r tt o).0
 
 pub c_fresh_sender : (r : FlatSender) → FreshSenderCall r → r ≡ record { start = 0; used = 0; next = 0 }
 c_fresh_sender r o = (every_call_for_c_holds.sender_begins.one_outcome r _ tt tt o refl).0

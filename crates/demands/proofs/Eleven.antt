@@ -11,7 +11,7 @@ use Rattle.std.specs.Prelude.{Result, Ok, Err}
 use Rattle.refusals.specs.Numbers.{number_of}
 use Rattle.refusals.specs.Table.{Row, ◌unless◌, first_of}
 use Rattle.refusals.specs.declared.Refusal.{Refusal}
-use Rattle.refusals.specs.declared.Refusal.TheVariants.{ReceivedField}
+use Rattle.refusals.specs.declared.Refusal.TheVariants.{FieldRule}
 use Rattle.refusals.proofs.Numbers.{number_above}
 use Rattle.refusals.proofs.Table.{numbers_of}
 use Rattle.header.specs.Header.{fields_fit, header_fits}
@@ -71,7 +71,7 @@ module _ (header : Header) (area : List ℕ) (receiver : Receiver) (hold list : 
   -- whatever `open` answered is never refused with 11, whatever it is applied to
   pub never_11 : (taps : ℕ) (frame buffer : List ℕ) (repaired : ℕ) (after : List ℕ)
       → OpenOutcome taps frame buffer (Ok (record { header = header; repaired = repaired })) after
-      → (hold' list' : List ℕ) → ApplyOutcome header area receiver hold list (Err ReceivedField) hold' list' → ⊥
+      → (hold' list' : List ℕ) → ApplyOutcome header area receiver hold list (Err FieldRule) hold' list' → ⊥
   never_11 taps frame buffer repaired after opened hold' list' applied =
       fitting_never (demand2_holds.frame_again taps frame buffer (record { header = header; repaired = repaired }) after opened).1.1 (sym (apply_numbers applied))
 

@@ -12,7 +12,7 @@ use Rattle.std.specs.Prelude.{Result, Ok, Err}
 use Rattle.refusals.specs.Numbers.{refusal_of}
 use Rattle.refusals.specs.Table.{first_of}
 use Rattle.refusals.specs.declared.Refusal.{Refusal}
-use Rattle.refusals.specs.declared.Refusal.TheVariants.{JoinedLength}
+use Rattle.refusals.specs.declared.Refusal.TheVariants.{TooLong}
 use Rattle.lent.specs.Written.{written}
 use Rattle.lent.proofs.Written.{written_front}
 use Rattle.scrambler.specs.Scrambler.{taps_allowed}
@@ -143,7 +143,7 @@ module _ (taps : ℕ) (frame came : List ℕ) (near : NearFrame came frame) (rec
       by_opened header area receiver hold both.list buffers ∙ opened_by_area header area part s.carries.fits_header ∙ area_number false e in
       let ne : n ≡ 0 → ⊥ = λ z. omega arith in
       let is = sym comes_so ∙ machine_refuses header area receiver hold pieces (own_pieces taps s) e in
-      let said : both.answer ≡ Err JoinedLength = refused_answer applies ne ∙ ap (λ (k : ℕ). Err (refusal_of k)) fifteen in
+      let said : both.answer ≡ Err TooLong = refused_answer applies ne ∙ ap (λ (k : ℕ). Err (refusal_of k)) fifteen in
       rw (is, said, refused_hold applies ne) (record { learns = refl; holds = record { stands = refl; most = h.most; long = h.long } })
 
   pub receives : Takes receiver both.answer both.hold' both.list' as_model

@@ -84,10 +84,10 @@ pub fn received<W: Write>(
 // What a refusal says of a damaged frame.
 fn reason(refusal: Refusal) -> &'static str {
     match refusal {
-        Refusal::Size => ", cut short",
+        Refusal::Length => ", cut short",
         Refusal::Preamble => ", preamble",
-        Refusal::CodedHeader => ", header",
-        Refusal::PayloadWord => ", payload",
+        Refusal::HeaderCode => ", header",
+        Refusal::PayloadCode => ", payload",
         _ => "",
     }
 }

@@ -51,7 +51,7 @@ pub fn shown(body: &[u8], at_hand: &Lent) -> Outcome {
     let scratch = lent_bytes::kept();
     let answer = match number {
         0 => Ok(count),
-        _ => Err(Refusal::Size),
+        _ => Err(Refusal::Length),
     };
     let shown = repairing::shown(answer, part, scratch.get(..room).ok_or(Malformed)?);
     digest::outcome(shown, expected)

@@ -73,10 +73,10 @@ fn judge(header: Header, out: &[u8]) -> Result<(), Refusal>
     ensures { result ≡ judged_by (code_refusal header out.now) }
 {
     if out.len() != 16 {
-        return Err(Refusal::Size);
+        return Err(Refusal::Length);
     }
     if !coding::fields_fit(header.fields) {
-        return Err(Refusal::SentField);
+        return Err(Refusal::Field);
     }
     Ok(())
 }

@@ -6,7 +6,7 @@ use native.Mathlib.Omega.{arith}
 use borrow.Author.Tests.{eqb-true, eq-eqb, ne_eqb}
 use lib.ListN.{length}
 use Rattle.std.specs.Prelude.{Err}
-use Rattle.refusals.specs.declared.Refusal.TheVariants.{Size}
+use Rattle.refusals.specs.declared.Refusal.TheVariants.{Length}
 use Rattle.refusals.specs.Numbers.{refusal_of}
 use Rattle.refusals.specs.Table.{first_of, by}
 use Rattle.refusals.proofs.Table.{unless_passed}
@@ -17,7 +17,7 @@ unfolding read_refusal
 read_length bytes e = eqb-true (length bytes) 16 (unless_passed 2 _ _ (omega arith) e).0
 
 -- bytes of another number are refused with 2
-pub read_unsized : (bytes : List ℕ) → (length bytes ≡ 16 → ⊥) → Err Size ≡ read_header bytes
+pub read_unsized : (bytes : List ℕ) → (length bytes ≡ 16 → ⊥) → Err Length ≡ read_header bytes
 unfolding read_refusal first_of by refusal_of
 read_unsized bytes ne = rw (ne_eqb (length bytes) 16 ne) refl
 

@@ -33,10 +33,10 @@ pub fn judge(bytes: &[u8; 16]) -> Result<(), Refusal>
     ensures { result ≡ judged_by (first_of (header_table bytes.now)) }
 {
     if !sum_holds(bytes) {
-        return Err(Refusal::HeaderSum);
+        return Err(Refusal::HeaderCheckSum);
     }
     if !rules_hold(bytes) {
-        return Err(Refusal::ReceivedField);
+        return Err(Refusal::FieldRule);
     }
     Ok(())
 }
@@ -75,7 +75,7 @@ pub fn header_of(bytes: &[u8; 16]) -> Header
 pub fn read_header(bytes: &[u8]) -> Result<Header, Refusal>
     ensures { ReadHeaderOutcome bytes.now result }
 {
-    let sized = bytes.as_array().ok_or(Refusal::Size)?;
+    let sized = bytes.as_array().ok_or(Refusal::Length)?;
     judge(sized)?;
     Ok(header_of(sized))
 }

@@ -7,7 +7,7 @@ use borrow.Author.Tests.{eq-eqb, ne_eqb}
 use Rattle.std.specs.Prelude.{Some, None, Ok, Err}
 use Rattle.refusals.specs.Numbers.{refusal_of}
 use Rattle.refusals.specs.Table.{first_of, by}
-use Rattle.refusals.specs.declared.Refusal.TheVariants.{ListPosition}
+use Rattle.refusals.specs.declared.Refusal.TheVariants.{ListEntry}
 use Rattle.list.specs.Entries.{length_at, entry_refusal, entry_answer}
 
 -- ---- the answer, case by case
@@ -17,7 +17,7 @@ module _ (list : List ℕ) (position : ℕ) where
   at_end e = rw (eq-eqb position (length list) e)
 
   module _ (ne : position ≡ length list → ⊥) (n : ℕ) (e : n ≡ length_at list position) where
-    pub at_refusal : n ≡ 0 → Err ListPosition ≡ entry_answer list position
+    pub at_refusal : n ≡ 0 → Err ListEntry ≡ entry_answer list position
     unfolding entry_answer entry_refusal first_of by refusal_of
     at_refusal z = rw (ne_eqb position (length list) ne, ← e, eq-eqb n 0 z)
 

@@ -35,7 +35,7 @@ pub fn entry(list: &[u8], position: usize) -> Result<Option<Place>, Refusal>
     if position == list.len() {
         return Ok(None);
     }
-    let length = length_at(list, position).ok_or(Refusal::ListPosition)?;
+    let length = length_at(list, position).ok_or(Refusal::ListEntry)?;
     let start = position + 2;
     Ok(Some(Place {
         start,

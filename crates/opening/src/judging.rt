@@ -22,7 +22,7 @@ pub fn judge_outside(taps: u32, frame: &[u8], area: &[u8]) -> Result<(), Refusal
         return Err(Refusal::Taps);
     }
     if frame.len() != sizes::FRAME_SIZE || area.len() < sizes::AREA_SIZE {
-        return Err(Refusal::Size);
+        return Err(Refusal::Length);
     }
     if !lent::are_same(&frame[..9], &frame::preamble()) {
         return Err(Refusal::Preamble);
@@ -51,16 +51,16 @@ pub fn judge_inside(header: bool, words: bool, body: &[u8; 2072]) -> Result<(), 
     ensures { result ≡ judged_by (first_of (repaired_table header words body.now)) }
 {
     if !header {
-        return Err(Refusal::CodedHeader);
+        return Err(Refusal::HeaderCode);
     }
     header_reading::judge(header_part(body))?;
     if !words {
-        return Err(Refusal::PayloadWord);
+        return Err(Refusal::PayloadCode);
     }
     if is_area_checked(body) {
         Ok(())
     } else {
-        Err(Refusal::AreaSum)
+        Err(Refusal::PayloadCheckSum)
     }
 }
 

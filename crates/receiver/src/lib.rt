@@ -74,7 +74,7 @@ fn judge_buffers(area: &[u8], held: usize, hold: &[u8], list: &[u8]) -> Result<(
     ensures { result ≡ judged_by (first_of (buffers_table area.now held hold.now list.now)) }
 {
     if !are_sized(area, hold, list) {
-        return Err(Refusal::Size);
+        return Err(Refusal::Length);
     }
     if sizes::MOST_HELD < held {
         return Err(Refusal::State);
@@ -93,7 +93,7 @@ fn judge_area(kind: FrameKind, area: &[u8], held: &[u8]) -> Result<(), Refusal>
         return Err(Refusal::Packing);
     }
     if !fitting::first_fits(area, held) {
-        return Err(Refusal::JoinedLength);
+        return Err(Refusal::TooLong);
     }
     Ok(())
 }
@@ -103,7 +103,7 @@ fn judge_opened(header: Header, area: &[u8], held: &[u8]) -> Result<(), Refusal>
     ensures { result ≡ judged_by (first_of (opened_table header area.now held.now)) }
 {
     if !coding::fields_fit(header.fields) {
-        return Err(Refusal::ReceivedField);
+        return Err(Refusal::FieldRule);
     }
     judge_area(header.kind, area, held)
 }

@@ -9,8 +9,8 @@ use lib.Dec.{eqb}
 use Rattle.std.specs.Prelude.{Result, Ok, Err}
 use Rattle.basics.proofs.Tests.{left_true, right_true}
 use Rattle.refusals.specs.declared.Refusal.{Refusal}
-use Rattle.refusals.specs.declared.Refusal.TheVariants.{Taps, Size, State, PacketLength, QueueRoom, SentField, Preamble, CodedHeader, HeaderSum}
-use Rattle.refusals.specs.declared.Refusal.TheVariants.{ReceivedField, PayloadWord, AreaSum, Packing, JoinedLength, ListPosition}
+use Rattle.refusals.specs.declared.Refusal.TheVariants.{Taps, Length, State, PacketLength, NoRoom, Field, Preamble, HeaderCode, HeaderCheckSum}
+use Rattle.refusals.specs.declared.Refusal.TheVariants.{FieldRule, PayloadCode, PayloadCheckSum, Packing, TooLong, ListEntry}
 use Rattle.refusals.specs.Numbers.{number_of, refusal_of, answer_by, judged_by, number_in}
 use Rattle.refusals.specs.Table.{Row, first_of, by}
 use Rattle.refusals.proofs.Table.{numbers_of}
@@ -59,26 +59,26 @@ stands number done old given z e = rw (z, e)
 pub refusal_back : (refusal : Refusal) → refusal_of (number_of refusal) ≡ refusal
 unfolding refusal_of
 refusal_back Taps = refl
-refusal_back Size = refl
+refusal_back Length = refl
 refusal_back State = refl
 refusal_back PacketLength = refl
-refusal_back QueueRoom = refl
-refusal_back SentField = refl
+refusal_back NoRoom = refl
+refusal_back Field = refl
 refusal_back Preamble = refl
-refusal_back CodedHeader = refl
-refusal_back HeaderSum = refl
-refusal_back ReceivedField = refl
-refusal_back PayloadWord = refl
-refusal_back AreaSum = refl
+refusal_back HeaderCode = refl
+refusal_back HeaderCheckSum = refl
+refusal_back FieldRule = refl
+refusal_back PayloadCode = refl
+refusal_back PayloadCheckSum = refl
 refusal_back Packing = refl
-refusal_back JoinedLength = refl
-refusal_back ListPosition = refl
+refusal_back TooLong = refl
+refusal_back ListEntry = refl
 
 -- no refusal has the number 0
 pub number_above : (refusal : Refusal) → number_of refusal ≡ 0 → ⊥
 unfolding refusal_of
 number_above refusal z =
-    let is : refusal ≡ ListPosition = sym (refusal_back refusal) ∙ ap refusal_of z in
+    let is : refusal ≡ ListEntry = sym (refusal_back refusal) ∙ ap refusal_of z in
     let e : ◌≡◌ {A = ℕ} 16 0 = sym (ap number_of is) ∙ z in
     omega arith
 

@@ -1,46 +1,46 @@
 -- The refusals and their numbers (01, "Refusal numbers"), and the answer of a call that goes by the number of its table.
 use Rattle.std.specs.Prelude.{cond, ℕ, eqb, Result, Ok, Err}
 use Rattle.refusals.specs.declared.Refusal.{Refusal}
-use Rattle.refusals.specs.declared.Refusal.TheVariants.{Taps, Size, State, PacketLength, QueueRoom, SentField, Preamble, CodedHeader, HeaderSum}
-use Rattle.refusals.specs.declared.Refusal.TheVariants.{ReceivedField, PayloadWord, AreaSum, Packing, JoinedLength, ListPosition}
+use Rattle.refusals.specs.declared.Refusal.TheVariants.{Taps, Length, State, PacketLength, NoRoom, Field, Preamble, HeaderCode, HeaderCheckSum}
+use Rattle.refusals.specs.declared.Refusal.TheVariants.{FieldRule, PayloadCode, PayloadCheckSum, Packing, TooLong, ListEntry}
 use Rattle.refusals.specs.Table.{by}
 
 -- the paper's number
 abbrev pub number_of : Refusal → ℕ
 number_of Taps = 1
-number_of Size = 2
+number_of Length = 2
 number_of State = 3
 number_of PacketLength = 4
-number_of QueueRoom = 5
-number_of SentField = 6
+number_of NoRoom = 5
+number_of Field = 6
 number_of Preamble = 7
-number_of CodedHeader = 8
-number_of HeaderSum = 9
-number_of ReceivedField = 11
-number_of PayloadWord = 12
-number_of AreaSum = 13
+number_of HeaderCode = 8
+number_of HeaderCheckSum = 9
+number_of FieldRule = 11
+number_of PayloadCode = 12
+number_of PayloadCheckSum = 13
 number_of Packing = 14
-number_of JoinedLength = 15
-number_of ListPosition = 16
+number_of TooLong = 15
+number_of ListEntry = 16
 
 -- the refusal with a number of the table; of another number, which no call's table has, the last
 unfoldable pub refusal_of : ℕ → Refusal
 refusal_of number =
     cond (eqb number 1) Taps
-    (cond (eqb number 2) Size
+    (cond (eqb number 2) Length
     (cond (eqb number 3) State
     (cond (eqb number 4) PacketLength
-    (cond (eqb number 5) QueueRoom
-    (cond (eqb number 6) SentField
+    (cond (eqb number 5) NoRoom
+    (cond (eqb number 6) Field
     (cond (eqb number 7) Preamble
-    (cond (eqb number 8) CodedHeader
-    (cond (eqb number 9) HeaderSum
-    (cond (eqb number 11) ReceivedField
-    (cond (eqb number 12) PayloadWord
-    (cond (eqb number 13) AreaSum
+    (cond (eqb number 8) HeaderCode
+    (cond (eqb number 9) HeaderCheckSum
+    (cond (eqb number 11) FieldRule
+    (cond (eqb number 12) PayloadCode
+    (cond (eqb number 13) PayloadCheckSum
     (cond (eqb number 14) Packing
-    (cond (eqb number 15) JoinedLength
-    ListPosition)))))))))))))
+    (cond (eqb number 15) TooLong
+    ListEntry)))))))))))))
 
 -- an answer: what is done where the number is 0, and otherwise the refusal with that number
 abbrev pub answer_by : {A : Type 0} → ℕ → A → Result A Refusal

@@ -11,20 +11,20 @@ use std::fmt;
 #[derive(Clone, Copy, Debug, PartialEq, Eq)]
 pub enum Refusal {
     Taps = 1,
-    Size = 2,
+    Length = 2,
     State = 3,
     PacketLength = 4,
-    QueueRoom = 5,
-    SentField = 6,
+    NoRoom = 5,
+    Field = 6,
     Preamble = 7,
-    CodedHeader = 8,
-    HeaderSum = 9,
-    ReceivedField = 11,
-    PayloadWord = 12,
-    AreaSum = 13,
+    HeaderCode = 8,
+    HeaderCheckSum = 9,
+    FieldRule = 11,
+    PayloadCode = 12,
+    PayloadCheckSum = 13,
     Packing = 14,
-    JoinedLength = 15,
-    ListPosition = 16,
+    TooLong = 15,
+    ListEntry = 16,
 }
 
 // The paper's number.
@@ -40,20 +40,20 @@ impl fmt::Display for Refusal {
     fn fmt<W: fmt::Write>(&self, f: &mut fmt::Formatter<W>) -> fmt::Result {
         f.write_str(match self {
             Refusal::Taps => "taps at or above 2^25, or tap 0 clear",
-            Refusal::Size => "a buffer, a frame or a header without its size",
+            Refusal::Length => "a buffer, a frame or a header without its size",
             Refusal::State => "a queue that is not whole, or a held length above 8,999",
             Refusal::PacketLength => "a packet of 0 or above 9,000 bytes",
-            Refusal::QueueRoom => "no room in the queue",
-            Refusal::SentField => "a field to send is too large for its bits or against its rule",
+            Refusal::NoRoom => "no room in the queue",
+            Refusal::Field => "a field to send is too large for its bits or against its rule",
             Refusal::Preamble => "the preamble differs",
-            Refusal::CodedHeader => "no codeword is near the coded header",
-            Refusal::HeaderSum => "the CRC-16 differs",
-            Refusal::ReceivedField => "a received field is against its rule",
-            Refusal::PayloadWord => "no codeword is near one of the eight payload words",
-            Refusal::AreaSum => "the CRC-32 differs",
+            Refusal::HeaderCode => "no codeword is near the coded header",
+            Refusal::HeaderCheckSum => "the CRC-16 differs",
+            Refusal::FieldRule => "a received field is against its rule",
+            Refusal::PayloadCode => "no codeword is near one of the eight payload words",
+            Refusal::PayloadCheckSum => "the CRC-32 differs",
             Refusal::Packing => "a DATA area against the packing rules",
-            Refusal::JoinedLength => "the first record makes what is held too long",
-            Refusal::ListPosition => "no entry of the list stands at the position",
+            Refusal::TooLong => "the first record makes what is held too long",
+            Refusal::ListEntry => "no entry of the list stands at the position",
         })
     }
 }

@@ -38,7 +38,7 @@ fn judge_outer(taps: u32, part: &[u8], scratch: &[u8]) -> Result<(), Refusal>
         return Err(Refusal::Taps);
     }
     if part.len() != 2072 || scratch.len() < 2072 {
-        return Err(Refusal::Size);
+        return Err(Refusal::Length);
     }
     Ok(())
 }
@@ -49,10 +49,10 @@ fn judge_near(header: bool, words: bool) -> Result<(), Refusal>
     ensures { result ≡ judged_by (first_of (8 unless header ∷ 12 unless words ∷ [])) }
 {
     if !header {
-        return Err(Refusal::CodedHeader);
+        return Err(Refusal::HeaderCode);
     }
     if !words {
-        return Err(Refusal::PayloadWord);
+        return Err(Refusal::PayloadCode);
     }
     Ok(())
 }

@@ -39,7 +39,7 @@ impl Sender {
         ensures { result ≡ judged_by (waiting_refusal queue.now self.start self.used) }
     {
         if queue.len() != sizes::QUEUE_SIZE {
-            return Err(Refusal::Size);
+            return Err(Refusal::Length);
         }
         if !marks::is_ring_whole(queue, self.start, self.used) {
             return Err(Refusal::State);
@@ -58,7 +58,7 @@ fn judge_put(queue: &[u8], sender: Sender, packet: &[u8]) -> Result<(), Refusal>
         return Err(Refusal::PacketLength);
     }
     if sizes::QUEUE_SIZE - sender.used < 2 + packet.len() {
-        return Err(Refusal::QueueRoom);
+        return Err(Refusal::NoRoom);
     }
     Ok(())
 }

@@ -27,11 +27,11 @@ fn judge(taps: u32, fields: Fields, sender: Sender, queue: &[u8], out: &[u8]) ->
         return Err(Refusal::Taps);
     }
     if out.len() < sizes::FRAME_SIZE {
-        return Err(Refusal::Size);
+        return Err(Refusal::Length);
     }
     sender.judge(queue)?;
     if !header::coding::fields_fit(fields) {
-        return Err(Refusal::SentField);
+        return Err(Refusal::Field);
     }
     Ok(())
 }

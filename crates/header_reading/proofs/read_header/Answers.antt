@@ -1,6 +1,6 @@
 -- 2 where there are not exactly 16 bytes (`read_unsized`); where there are, by what they hold (`read_by_content`).
 use Rattle.std.proofs.Common.{◌≡◌, rules, Err, sym, ap, ◌∙◌, length}
-use Rattle.refusals.specs.declared.Refusal.TheVariants.{Size}
+use Rattle.refusals.specs.declared.Refusal.TheVariants.{Length}
 use Rattle.refusals.specs.Numbers.{judged_by}
 use Rattle.refusals.specs.Table.{first_of}
 use Rattle.refusals.proofs.Numbers.{passed, refused, answered}
@@ -11,7 +11,7 @@ use Rattle.header_reading.proofs.read_header.Goals as goal
 pub returns-in_err-sized : goal.returns-in_err-sized
 returns-in_err-sized c =
     let unsized : length c.args.bytes.now ≡ 16 → ⊥ = search rules in
-    let same : c.from_residual.result ≡ Err Size = search rules in
+    let same : c.from_residual.result ≡ Err Length = search rules in
     same ∙ read_unsized _ unsized
 
 pub returns-in_err-judge : goal.returns-in_err-judge
