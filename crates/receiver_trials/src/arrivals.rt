@@ -49,11 +49,12 @@ fn opened_and_applied(
     list: &mut [u8],
 ) -> [u8; 54] {
     let mut area = lent_bytes::kept();
-    match opening::open(taps, frame, &mut area) {
+    let opened = opening::open(taps, frame, &mut area);
+    match opened {
         Ok(opened) => {
             let applied = receiver::apply(
                 opened.header,
-                &area[..sizes::AREA_SIZE],
+                &area[0..sizes::AREA_SIZE],
                 receiver,
                 hold,
                 list,

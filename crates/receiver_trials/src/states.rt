@@ -30,12 +30,13 @@ fn expected_bytes(expected: Option<Txfn>) -> [u8; 3] {
 fn joined(head: &[u8; 25], applied: Applied) -> [u8; 54] {
     let receiver = applied.receiver;
     let mut answer = [0u8; 54];
-    answer[0..25].copy_from_slice(head);
-    answer[25..27].copy_from_slice(&applied.missed.to_be_bytes());
-    answer[27..35].copy_from_slice(&applied.packets.to_be_bytes());
-    answer[35..43].copy_from_slice(&applied.listed.to_be_bytes());
-    answer[43..46].copy_from_slice(&expected_bytes(receiver.expected));
-    answer[46..54].copy_from_slice(&receiver.held.to_be_bytes());
+    // By `write_at`: behind two `copy_from_slice` into 54 bytes the search for a proof no longer finds their length (tried).
+    lent::write_at(&mut answer, 0, head);
+    lent::write_at(&mut answer, 25, &applied.missed.to_be_bytes());
+    lent::write_at(&mut answer, 27, &applied.packets.to_be_bytes());
+    lent::write_at(&mut answer, 35, &applied.listed.to_be_bytes());
+    lent::write_at(&mut answer, 43, &expected_bytes(receiver.expected));
+    lent::write_at(&mut answer, 46, &receiver.held.to_be_bytes());
     answer
 }
 
