@@ -1,6 +1,6 @@
 -- How a call's two ways out meet a contract that goes by the number of its table, given what its judge answered; and the laws of the numbers.
 use Prim.Native.Nat.{ℕ}
-use mathlib.Core.Bool.{Bool, true, false, false≢true, cond, ◌&&◌}
+use mathlib.Core.Bool.{Bool, true, false, cond, ◌&&◌}
 use mathlib.Core.List.{List, [], ◌∷◌}
 use mathlib.Core.Path.{◌≡◌, refl, sym, ap, ◌∙◌}
 use native.Mathlib.Omega.{arith}
@@ -11,7 +11,7 @@ use Rattle.basics.proofs.Tests.{left_true, right_true}
 use Rattle.refusals.specs.declared.Refusal.{Refusal}
 use Rattle.refusals.specs.declared.Refusal.TheVariants.{Taps, Length, State, PacketLength, NoRoom, Field, Preamble, HeaderCode, HeaderCheckSum}
 use Rattle.refusals.specs.declared.Refusal.TheVariants.{FieldRule, PayloadCode, PayloadCheckSum, Packing, TooLong, ListEntry}
-use Rattle.refusals.specs.Numbers.{number_of, refusal_of, answer_by, judged_by, number_in}
+use Rattle.refusals.specs.Numbers.{number_of, refusal_of, answer_by, number_in}
 use Rattle.refusals.specs.Table.{Row, first_of, by}
 use Rattle.refusals.proofs.Table.{numbers_of}
 
