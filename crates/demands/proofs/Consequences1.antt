@@ -129,7 +129,7 @@ unfolding first_of taps_allowed
 repair_refused part scratch = first_given (every_call_holds.repair 0 part scratch) Taps refl
 
 -- one part is shown, and after a refusal it is empty
-pub shown_none : (refusal : Refusal) (part scratch : Bor (List ℕ)) (r : List ℕ × (ℕ × ℕ))
+pub shown_none : {E : Type 0} (refusal : E) (part scratch : Bor (List ℕ)) (r : List ℕ × (ℕ × ℕ))
     → (r.0 ≡ shown_bytes (Err refusal) part.now scratch.now) × (r.1 ≡ shown_place (Err refusal) part scratch) → r.0 ≡ []
 unfolding shown_bytes shown_place
 shown_none refusal part scratch r o =

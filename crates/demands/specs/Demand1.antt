@@ -53,7 +53,7 @@ abbrev pub RefusesNothing : {Answer : Type 0} → (Answer → Type 0) → Type 0
 RefusesNothing Meets = Demand1 {Lent = Unit {0}} (λ answer after. Meets answer) tt (λ answer. 0) (λ answer number. ⊥) []
 
 -- The calls, each with all its inputs.
-pub record EveryCall : Type 0 where
+pub record EveryCall : Type 1 where
   pub put : (queue : List ℕ) (sender : Sender) (packet : List ℕ)
       → RefusesByTable (PutOutcome queue sender packet) queue (put_table queue sender.start sender.used packet)
   pub next_frame : (taps : ℕ) (fields : Fields) (sender : Sender) (queue out : List ℕ)
@@ -72,7 +72,7 @@ pub record EveryCall : Type 0 where
   pub entry : (list : List ℕ) (position : ℕ)
       → RefusesByTable {Lent = Unit {0}} (λ answer after. EntryOutcome list position answer) tt (entry_table list position)
   -- the bytes handed back after a repair and where they stand; an empty part at a refusal of `repair`
-  pub shown : (answer : Result ℕ Refusal) (part scratch : Bor (List ℕ))
+  pub shown : {E : Type 0} (answer : Result ℕ E) (part scratch : Bor (List ℕ))
       → RefusesNothing {Answer = List ℕ × (ℕ × ℕ)} (λ r. (r.0 ≡ shown_bytes answer part.now scratch.now) × (r.1 ≡ shown_place answer part scratch))
   -- the bytes handed back and where they stand; an empty part at an end or a refusal of `entry`
   pub packet : (list : List ℕ) (from : ℕ × ℕ) (position : ℕ)

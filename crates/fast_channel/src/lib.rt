@@ -124,7 +124,8 @@ impl FastChannel {
         }
     }
 
-    // The message that a receiver reads. A message is two numbers, so that `From`, which would take and give them as a pair, is no plainer.
+    // The message that a receiver reads. A message is two numbers, so that `From`, which would take and give them as a pair, is no plainer. Numbers of 14, 5, 5
+    // and 6 bits are no whole bytes, and so are taken apart by arithmetic.
     #[tactic(auto, unfolding(crate::specs::FastChannel::message_of))]
     pub fn received(opcode: u8, payload: u16) -> FastChannel
         ensures { result ≡ message_of opcode payload }

@@ -100,14 +100,13 @@ unfolding times
 product_start m sum a y e = ap (λ (x : ℕ). bit_xor x (each_byte (sum_over 8 a) m y)) e
 
 -- turn i of eight
-pub product_turn : (m sum a y i : ℕ) → y < 256 ^ m → i < 8
-    → bit_xor (bit_xor sum (a % 2 * y)) (each_byte (sum_over (8 - (i + 1)) (a / 2)) m (each_byte double m y))
-    ≡ bit_xor sum (each_byte (sum_over (8 - i) a) m y)
-product_turn m sum a y i hy h =
-    let n = 8 - (i + 1) in
-    let back : suc n ≡ 8 - i = omega arith in
-    xor_assoc sum (a % 2 * y) (each_byte (sum_over n (a / 2)) m (each_byte double m y))
-    ∙ ap (bit_xor sum) (each_sum m n a y hy ∙ ap (λ (k : ℕ). each_byte (sum_over k a) m y) back)
+pub product_turn : (m sum a y n : ℕ) → y < 256 ^ m → 0 < n
+    → bit_xor (bit_xor sum (a % 2 * y)) (each_byte (sum_over (n - 1) (a / 2)) m (each_byte double m y)) ≡ bit_xor sum (each_byte (sum_over n a) m y)
+product_turn m sum a y n hy h =
+    let k = n - 1 in
+    let back : suc k ≡ n = omega arith in
+    xor_assoc sum (a % 2 * y) (each_byte (sum_over k (a / 2)) m (each_byte double m y))
+    ∙ ap (bit_xor sum) (each_sum m k a y hy ∙ ap (λ (j : ℕ). each_byte (sum_over j a) m y) back)
 
 pub product_end : (m sum a y n : ℕ) → n ≤ 0 → bit_xor sum (each_byte (sum_over n a) m y) ≡ sum
 unfolding sum_over

@@ -42,7 +42,7 @@ pub fn repaired(body: &[u8], at_hand: &Lent) -> Outcome {
     outcome::both(called, digest::outcome(&lent, &lent_digest))
 }
 
-// An answer, the lengths of part and scratch, the digest of what is shown after this answer. After a refusal, whichever it is, nothing is shown.
+// An answer, by its refusal's number, the lengths of part and scratch, the digest of what is shown after this answer.
 pub fn shown(body: &[u8], at_hand: &Lent) -> Outcome {
     let ([number, count], rest) = record::front::<2>(body)?;
     let (length, rest) = record::length(rest)?;
@@ -51,7 +51,7 @@ pub fn shown(body: &[u8], at_hand: &Lent) -> Outcome {
     let scratch = lent_bytes::kept();
     let answer = match number {
         0 => Ok(count),
-        _ => Err(Refusal::Length),
+        _ => Err(number),
     };
     let shown = repairing::shown(answer, part, scratch.get(..room).ok_or(Malformed)?);
     digest::outcome(shown, expected)

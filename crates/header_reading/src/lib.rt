@@ -59,7 +59,7 @@ fn fields_of(bytes: &[u8; 16]) -> Fields
     }
 }
 
-// The header that 16 bytes hold, where they are not refused.
+// The header that 16 bytes hold, where they are not refused: so no `From`, which would promise it of all.
 #[tactic(auto, unfolding(crate::specs::Reading::header_of))]
 pub fn header_of(bytes: &[u8; 16]) -> Header
     ensures { result ≡ header_of bytes.now }

@@ -56,7 +56,7 @@ impl Listing {
                     &mut self.list,
                 );
                 self.receiver = listing_lines::receiver_after(self.receiver, answer);
-                listing_lines::write_line(&mut line, place, header, answer)
+                listing_lines::write_line(&mut line, place, header, answer.map_err(u8::from))
             }
             Err(refusal) => listing_lines::write_refused(&mut line, place, u8::from(refusal)),
         };

@@ -7,8 +7,6 @@ use Rattle.header.specs.declared.FrameKind.{FrameKind}
 use Rattle.header.specs.declared.FrameKind.TheVariants.{Idle, Data, Type2, Type3}
 use Rattle.header.specs.declared.Header.{Header}
 use Rattle.receiver.specs.declared.Applied.{Applied}
-use Rattle.refusals.specs.Numbers.{number_of}
-use Rattle.refusals.specs.declared.Refusal.{Refusal}
 
 -- ---------------------------------------------------------------- words
 
@@ -51,6 +49,6 @@ unfoldable pub refused_line : ℕ → ℕ → List ℕ
 refused_line place number = line (decimal place) (ascii "refused" ∷ decimal number ∷ [])
 
 -- the line of a frame that was opened, by its header and by what applying it answers
-abbrev pub answer_line : ℕ → Header → Result Applied Refusal → List ℕ
+abbrev pub answer_line : ℕ → Header → Result Applied ℕ → List ℕ
 answer_line place header (Ok applied) = accepted_line place header.txfn.0 header.kind applied.missed applied.packets
-answer_line place header (Err refusal) = refused_line place (number_of refusal)
+answer_line place header (Err number) = refused_line place number

@@ -8,7 +8,6 @@ ghost use Rattle.listing_lines.specs.Lines.{decimal, kind_word, head_line, accep
 
 use header::{FrameKind, Header};
 use receiver::{Applied, Receiver};
-use refusals::Refusal;
 
 // What stands behind a word.
 const SPACE: u8 = 32;
@@ -94,13 +93,8 @@ pub fn write_refused(out: &mut [u8], place: u64, number: u8) -> usize
     write_number(out, after_refused, number as u64, NEWLINE)
 }
 
-// Writes the line of a frame that was opened, by its header and by what applying it answers, and gives its length.
-pub fn write_line(
-    out: &mut [u8],
-    place: u64,
-    header: Header,
-    answer: Result<Applied, Refusal>,
-) -> usize
+// Writes the line of a frame that was opened, by its header and by what applying it answers, its refusal's number, and gives its length.
+pub fn write_line(out: &mut [u8], place: u64, header: Header, answer: Result<Applied, u8>) -> usize
     requires { 96 ≤ length out.old }
     ensures value { (result ≡ length (answer_line place header answer)) × (result ≤ 96) }
     ensures out_after { out.new ≡ written out.old 0 (answer_line place header answer) }
@@ -114,12 +108,12 @@ pub fn write_line(
             applied.missed,
             applied.packets,
         ),
-        Err(refusal) => write_refused(out, place, u8::from(refusal)),
+        Err(number) => write_refused(out, place, number),
     }
 }
 
-// The receiver after a frame: a refusal leaves it as it was.
-pub fn receiver_after(before: Receiver, answer: Result<Applied, Refusal>) -> Receiver
+// The receiver after a frame: a refusal leaves it as it was, whatever tells of it.
+pub fn receiver_after<E: Copy>(before: Receiver, answer: Result<Applied, E>) -> Receiver
     ensures { result ≡ receiver_after before answer }
 {
     answer.map_or(before, |applied| applied.receiver)

@@ -115,6 +115,6 @@ module _ (header : Header) (area : List ℕ) (receiver : Receiver) (hold : List 
       pub listed : list' ≡ by apply_refusal (written list 0 list_then) list
 
 -- the receiver after an answer: a refusal leaves it as it was
-abbrev pub receiver_after : Receiver → Result Applied Refusal → Receiver
+abbrev pub receiver_after : {E : Type 0} → Receiver → Result Applied E → Receiver
 receiver_after before (Ok applied) = applied.receiver
 receiver_after before (Err refusal) = before

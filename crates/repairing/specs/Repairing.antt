@@ -34,10 +34,10 @@ pub record RepairOutcome (taps : ℕ) (part before : List ℕ) (r : Result ℕ R
       ≡ by (repair_refusal taps part before) (cond (eqb (wrong_bytes taps part) 0) before (written before 0 (repaired taps part))) before
 
 -- the bytes that `shown` hands back, and where they stand: the part's own where the count is 0, otherwise the scratch's first 2,072; none at a refusal
-unfoldable pub shown_bytes : Result ℕ Refusal → List ℕ → List ℕ → List ℕ
+unfoldable pub shown_bytes : {E : Type 0} → Result ℕ E → List ℕ → List ℕ → List ℕ
 shown_bytes (Ok count) part scratch = cond (eqb count 0) part (cond (leb 2072 (length scratch)) (take 2072 scratch) [])
 shown_bytes (Err refusal) part scratch = []
 
-unfoldable pub shown_place : Result ℕ Refusal → Bor (List ℕ) → Bor (List ℕ) → ℕ × ℕ
+unfoldable pub shown_place : {E : Type 0} → Result ℕ E → Bor (List ℕ) → Bor (List ℕ) → ℕ × ℕ
 shown_place (Ok count) part scratch = cond (eqb count 0) part.ref_ptr scratch.ref_ptr
 shown_place (Err refusal) part scratch = part.ref_ptr

@@ -67,8 +67,8 @@ fn write_scrambled(taps: u32, body: [u8; 2072], scratch: &mut [u8])
     lent::write_at(scratch, 0, &part);
 }
 
-// The bytes after a repair: the part itself where nothing was wrong, otherwise the first 2,072 bytes of the scratch; none at a refusal.
-pub fn shown<'a>(answer: Result<u8, Refusal>, part: &'a [u8], scratch: &'a [u8]) -> &'a [u8]
+// The bytes after a repair: the part itself where nothing was wrong, otherwise the first 2,072 bytes of the scratch; none at a refusal, whatever tells of it.
+pub fn shown<'a, E: Copy>(answer: Result<u8, E>, part: &'a [u8], scratch: &'a [u8]) -> &'a [u8]
     ensures result_value { result.now ≡ shown_bytes answer part.now scratch.now }
     ensures place { result.ref_ptr ≡ shown_place answer part.entry scratch.entry }
 {

@@ -13,7 +13,8 @@ use basics::sizes;
 use counts::Txfn;
 use refusals::Refusal;
 
-// Where the waiting packets begin in the ring, how many of its bytes they use, and the number of the next frame.
+// Where the waiting packets begin in the ring, how many of its bytes they use, and the number of the next frame. The ring's buffer goes beside it: it is lent
+// for one call, and the state is given back by value, to C too.
 #[derive(Clone, Copy)]
 pub struct Sender {
     pub start: usize,

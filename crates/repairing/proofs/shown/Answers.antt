@@ -16,13 +16,13 @@ from_start place = ap (λ n. (place.0, n)) (zero-add place.1)
 
 pub returns-in-Ok-eq0 : goal.returns-in-Ok-eq0
 unfolding shown_bytes shown_place
-returns-in-Ok-eq0 c =
+returns-in-Ok-eq0 g c =
     let told : c.args.answer ≡ Ok 0 = search rules in
     record { result_value = simp told; place = simp told }
 
 pub returns-then-scratch-lt2072 : goal.returns-then-scratch-lt2072
 unfolding shown_bytes shown_place
-returns-then-scratch-lt2072 c =
+returns-then-scratch-lt2072 g c =
     let told = c.in-Ok.is in
     let some : eqb c.in-Ok.field-0 0 ≡ false = search rules in
     let place = c.args.scratch.ref_ptr in
@@ -30,7 +30,7 @@ returns-then-scratch-lt2072 c =
 
 pub returns-else-scratch-lt2072 : goal.returns-else-scratch-lt2072
 unfolding shown_bytes shown_place
-returns-else-scratch-lt2072 c =
+returns-else-scratch-lt2072 g c =
     let told = c.in-Ok.is in
     let some : eqb c.in-Ok.field-0 0 ≡ false = search rules in
     let place = c.args.scratch.ref_ptr in
@@ -38,6 +38,6 @@ returns-else-scratch-lt2072 c =
 
 pub returns-in-Err : goal.returns-in-Err
 unfolding shown_bytes shown_place
-returns-in-Err c =
+returns-in-Err g c =
     let told = c.in-Err.is in
     record { result_value = simp told; place = from_start c.args.part.ref_ptr ∙ simp told }

@@ -1,5 +1,5 @@
 -- Bit by bit of a: the sum so far, and what the bits left make of the doubled bytes, together stay the product (`product_turn`).
-use mathlib.Core.Path.{sym, ap₂, ◌∙◌, subst}
+use mathlib.Core.Path.{◌≡◌, sym, ap₂, ◌∙◌, subst}
 use Prim.Native.Nat.{ℕ, ◌<◌, ◌-◌, ◌/◌, ◌+◌, ◌^◌}
 use native.Mathlib.Nat.{mod-lt}
 use native.Mathlib.Omega.{arith}
@@ -25,10 +25,12 @@ pub loop-preserved : goal.loop-preserved
 loop-preserved g c =
     let m = g.L.Lanes in
     let loop = c.loop in
-    let more = c.doubled-doubled.ensures in (
+    let more = c.doubled-doubled.ensures in
+    let left : 8 - (loop.counter + 1) ≡ 8 - loop.counter - 1 = omega arith in (
       subst (λ (y : ℕ). y < 256 ^ m.count) (sym more) (each_lt double double_lt m.count (m.number loop.doubled)),
       ap₂ (λ (x y : ℕ). bit_xor x (each_byte (sum_over (8 - (loop.counter + 1)) (loop.bits / 2)) m.count y)) c.plus_if-sum.ensures more
-          ∙ product_turn m.count (m.number loop.sum) loop.bits (m.number loop.doubled) loop.counter loop.invariant.0 (omega arith) ∙ loop.invariant.1,
+          ∙ rw left (product_turn m.count (m.number loop.sum) loop.bits (m.number loop.doubled) (8 - loop.counter) loop.invariant.0 (omega arith))
+          ∙ loop.invariant.1,
     )
 
 pub returns : goal.returns
