@@ -5,7 +5,7 @@ use crate::forms::Form;
 use outcome::{Malformed, Outcome};
 use vectors::record;
 
-// A message, and its CRC-16.
+// A message, and its CRC-16. This and the next are two, for one would take the sum and its type, and be no plainer.
 pub fn crc_16(body: &[u8]) -> Outcome {
     let (message, expected) = body.split_last_chunk::<2>().ok_or(Malformed)?;
     outcome::of(&crc::crc_16(message).to_be_bytes(), expected)

@@ -13,7 +13,7 @@ const GENERATOR: [u8; 17] = [
 // The exponents of CCSDS 131.0-B: coefficient k is this power of 2, and those from the middle on are the ones before it, backwards.
 const EXPONENTS: [usize; 9] = [0, 30, 230, 49, 235, 129, 81, 76, 173];
 
-// A CRC of some bytes, beside the one that is published.
+// A CRC of some bytes, beside the one that is published. Two functions, for one would take the sum, its type and its digits, and be no plainer.
 fn crc_16<W: Write>(
     out: &mut W,
     count: Count,

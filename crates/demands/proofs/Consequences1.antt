@@ -22,9 +22,9 @@ use Rattle.scrambler.specs.Scrambler.{taps_allowed}
 use Rattle.header.specs.Calls.{code_table, CodeHeaderOutcome}
 use Rattle.header.specs.declared.Fields.{Fields}
 use Rattle.header.specs.declared.Header.{Header}
-use Rattle.header_reading.specs.Reading.{read_table, ReadHeaderOutcome}
+use Rattle.header_reading.specs.Reading.{read_table, read_refusal, ReadHeaderOutcome}
 use Rattle.fast_channel.specs.Level.{LevelOutcome}
-use Rattle.opening.specs.Opening.{open_table, OpenOutcome}
+use Rattle.opening.specs.Opening.{open_table, open_refusal, OpenOutcome}
 use Rattle.opening.specs.declared.Opened.{Opened}
 use Rattle.repairing.specs.Repairing.{repair_table, RepairOutcome, shown_bytes, shown_place}
 use Rattle.marks.specs.Queue.{is_ring_whole}
@@ -34,7 +34,7 @@ use Rattle.sender.specs.declared.Sender.{Sender}
 use Rattle.sender.specs.declared.Counted.{Counted}
 use Rattle.sending.specs.Next.{next_table, NextOutcome}
 use Rattle.sending.specs.declared.Sent.{Sent}
-use Rattle.receiver.specs.Applying.{apply_table, ApplyOutcome}
+use Rattle.receiver.specs.Applying.{apply_table, apply_refusal, ApplyOutcome}
 use Rattle.receiver.specs.declared.Receiver.{Receiver}
 use Rattle.receiver.specs.declared.Applied.{Applied}
 use Rattle.list.specs.declared.Place.{Place}
@@ -175,13 +175,14 @@ never_5 queue sender answer after o =
     (4 when (eqb 0 0 || above 0 most_packet)) refl refl)
 
 -- .. and no answer has a number that is none of its table's (`number`): ..
+never_first : (table : List Row) (n : ℕ) → (n ≡ 0 → ⊥) → among n (numbers_of table) ≡ false → first_of table ≡ n → ⊥
+never_first table n ne none is =
+    false≢true (sym none ∙ subst (λ (n : ℕ). among n (numbers_of table) ≡ true) is (first_among table (λ z. ne (sym is ∙ z))))
+
 module _ {A B : Type 0} {Meets : Result A Refusal → B → Type 0} {before : B} {table : List Row} (demand : RefusesByTable Meets before table) where
   never_given : (n : ℕ) → (n ≡ 0 → ⊥) → among n (numbers_of table) ≡ false → (answer : Result A Refusal) (after : B) → Meets answer after
       → number_in answer ≡ n → ⊥
-  never_given n ne none answer after o is =
-      let e = sym (demand.number answer after o) ∙ is in
-      let given = first_among table (λ z. ne (sym e ∙ z)) in
-      false≢true (sym none ∙ subst (λ (n : ℕ). among n (numbers_of table) ≡ true) e given)
+  never_given n ne none answer after o is = never_first table n ne none (sym (demand.number answer after o) ∙ is)
 
 -- .. applying never refuses with 16, ..
 pub never_16 : (header : Header) (area : List ℕ) (receiver : Receiver) (hold list hold' list' : List ℕ)
@@ -201,6 +202,19 @@ never_10_opened taps frame area = never_given (every_call_holds.open_frame taps 
 
 pub never_10_read : (bytes : List ℕ) (answer : Result Header Refusal) → ReadHeaderOutcome bytes answer → number_in answer ≡ 10 → ⊥
 never_10_read bytes answer = never_given (every_call_holds.read bytes) 10 (λ z. omega arith) refl answer tt
+
+-- .. nor is it the number of one of their tables, whatever the inputs
+pub never_10_applies : (header : Header) (area : List ℕ) (receiver : Receiver) (hold list : List ℕ) → apply_refusal header area receiver hold list ≡ 10 → ⊥
+unfolding apply_refusal
+never_10_applies header area receiver hold list = never_first (apply_table header area receiver hold list) 10 (λ z. omega arith) refl
+
+pub never_10_opens : (taps : ℕ) (frame area : List ℕ) → open_refusal taps frame area ≡ 10 → ⊥
+unfolding open_refusal
+never_10_opens taps frame area = never_first (open_table taps frame area) 10 (λ z. omega arith) refl
+
+pub never_10_reads : (bytes : List ℕ) → read_refusal bytes ≡ 10 → ⊥
+unfolding read_refusal
+never_10_reads bytes = never_first (read_table bytes) 10 (λ z. omega arith) refl
 
 -- no put refuses with 0 (`refusal`): a refusal has a number of the table
 pub never_0 : (queue : List ℕ) (sender : Sender) (packet : List ℕ) (answer : Result Sender Refusal) (after : List ℕ)

@@ -76,7 +76,7 @@ fn hit_of(frame: u16) -> Hit
     }
 }
 
-// Damages a frame: every bit of each wrong byte is turned.
+// Damages a frame: every bit of each wrong byte is turned. By an index, as the scenario gives its places.
 pub fn damage(frame: u16, bytes: &mut [u8])
     requires { frame_size ≤ length bytes.old }
     ensures { bytes.new ≡ damaged_at frame bytes.old }

@@ -40,7 +40,7 @@ impl FarEnd {
         }
     }
 
-    // A frame is lost: the blocks that it carries do not come out.
+    // A frame is lost: the blocks that it carries do not come out. This and `refuse` are two, since what is counted and what is told differ.
     fn lose<W: Write>(&mut self, out: &mut W, blocks: Blocks) -> io::Result<()> {
         self.totals = self.totals.with_lost();
         self.broken = self.broken.with_all(blocks);

@@ -131,7 +131,7 @@ fn length_of_all(first: u16, end: u16) -> usize {
         .fold(0, usize::wrapping_add)
 }
 
-// Of each frame: no acknowledgement, no time and no message.
+// Of each frame: no acknowledgement, no time and no message. The library has no such default, for what is sent is the caller's to say.
 fn fields() -> Fields {
     Fields {
         rxfn: Rxfn(0),

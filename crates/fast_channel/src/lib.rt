@@ -22,7 +22,7 @@ impl From<Lock> for u16 {
     }
 }
 
-// A number above 1 is taken for 1.
+// A number above 1 is taken for 1, so that this is no `TryFrom`: the rule of a payload has refused it before.
 impl From<u16> for Lock {
     ghost from_gives = { λ number lock. lock ≡ lock_of number };
 

@@ -30,7 +30,7 @@ pub fn bytes(header: Header) -> [u8; 24] {
     bytes
 }
 
-// The message at the front of its eight bytes' kind and numbers.
+// The message in the last seven bytes of a header: its kind, and its numbers.
 fn message(bytes: &[u8]) -> Result<FastChannel, Malformed> {
     let ([kind], rest) = record::front::<1>(bytes)?;
     let (first, rest) = record::front(rest)?;

@@ -84,7 +84,7 @@ fn walk_stretch(stretch: &[u8], from: usize) -> usize
     at
 }
 
-// A place behind every ring.
+// A place behind every ring, and no Option: so one comparison ends the walk, at a length that is none as at the end of what is walked.
 const NOWHERE: usize = 2 * sizes::QUEUE_SIZE;
 
 // The used bytes of a ring, which stand round in its buffer from a start on; to the contracts they are a list. It is made where start and count have been

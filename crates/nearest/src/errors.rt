@@ -7,7 +7,7 @@ ghost use Rattle.nearest.specs.Search.{sums_of, error_at, fix_all, Falling};
 use crate::places::Places;
 use crate::sums::sums_with;
 
-// The sums when the place with a number is taken out: 15 of them, and the last byte is none.
+// The sums when the place with a number is taken out: 15 of them, and the last byte is none. By an index: each is made of its own and of the next.
 fn sums_without(sums: [u8; 16], number: u8) -> [u8; 16]
     ensures { (i : ℕ) → i < 15 → get_or result i 0 ≡ bit_xor (get_or sums (i + 1) 0) (times number (get_or sums i 0)) }
 {
@@ -40,7 +40,7 @@ pub struct Fixed {
     pub sums: [u8; 16],
 }
 
-// The word with its wrong places repaired. Its sums are followed, so that the check at the end needs no division.
+// The word with its wrong places repaired, each by its index, which tells the others. Its sums are followed, so that the check at the end needs no division.
 pub fn fix_all(own: [u8; 255], sums: [u8; 16], wrong: &Places) -> Fixed
     requires { (sums ≡ sums_of own) × Falling 255 (take wrong.now.count wrong.now.at) }
     ensures { (result.word ≡ fix_all sums [] (take wrong.now.count wrong.now.at) own) × (result.sums ≡ sums_of result.word) }

@@ -1,4 +1,5 @@
-// Repair of damaged bytes: the codeword that differs from a word in at most 8 bytes, given what division leaves of the word.
+// Repair of damaged bytes: the codeword that differs from a word in at most 8 bytes, given what division leaves of the word. That goes beside its word: the
+// caller divides all eight words at once, and a struct of both would be made at each call and taken apart in it.
 #![tactic(auto)]
 
 mod errors;

@@ -33,7 +33,7 @@ fn mix_rows(x: u8, row: [u8; 9], y: u8, other: [u8; 9]) -> [u8; 9]
     std::array::from_fn(|i| p[i] ^ q[i])
 }
 
-// The sums from an index on take one of the first 9 - from rows away.
+// The sums from an index on take one of the first 9 - from rows away. By an index: each row is made of itself and of the next.
 fn cut_rows(rows: [[u8; 9]; 9], sums: [u8; 16], from: usize) -> [[u8; 9]; 9]
     requires { from < 8 }
     ensures { take (8 - from) result ≡ cut (drop from sums) (take (9 - from) rows) }

@@ -5,7 +5,8 @@ ghost use Rattle.nearest.specs.Search.{places, locators};
 
 use crate::values;
 
-// Places of a word, and their numbers: the first `count` of each array. There is no heap for a list, and at most 8 are found.
+// Places of a word, and their numbers: the first `count` of each array. There is no heap for a list, and at most 8 are found. Two arrays,
+// since the numbers of the others go on as a slice of bytes.
 #[derive(Clone, Copy)]
 pub struct Places {
     pub count: usize,

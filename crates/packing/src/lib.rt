@@ -99,7 +99,7 @@ fn end_at(area: &[u8], at: usize) -> Result<Option<Record>, Refusal>
     Ok(None)
 }
 
-// Whether all bytes from a position on are 0. Behind the area there are none.
+// Whether all bytes from a position on are 0. Behind the area there are none, where no part begins that `are_zeros` of crate lent could be given.
 fn are_zeros(area: &[u8], at: usize) -> bool
     ensures { result ≡ all_zero (drop at area.now) }
 {

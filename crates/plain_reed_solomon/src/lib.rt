@@ -1,5 +1,5 @@
 // The plain form of the Reed-Solomon code, for a reader who holds it against 2.6.3.6.3: word by word, by long division with a register of 16 bytes.
-// The quick forms, with the same contracts, stand in crate reed_solomon (one word) and its module interleaving (a payload).
+// The quick forms, with the same contracts but for the tests of a word (D-107), stand in crate reed_solomon (one word) and its module interleaving (a payload).
 #![tactic(auto)]
 
 ghost use Rattle.std.specs.Prelude.{◌≡◌, ◌≤◌, ◌<◌, length, take};
@@ -26,7 +26,7 @@ pub fn parity_of(message: &[u8]) -> [u8; 16]
     register
 }
 
-// One byte goes into the register.
+// One byte goes into the register, place by place, as the standard draws it.
 fn shift(coefficients: &[u8; 17], register: [u8; 16], byte: u8) -> [u8; 16]
     requires { coefficients.now ≡ generator }
     ensures { result ≡ step times (tail generator) register byte }
@@ -70,7 +70,7 @@ pub fn are_codewords(payload: &[u8]) -> bool
     payload.len() == 2040 && (0..8).all(|k| is_codeword(&interleaving::gathered::<255>(payload, k)))
 }
 
-// Writes the parity of word k.
+// Writes the parity of word k. By an index, for each byte goes to a place of its own, eight behind the one before.
 fn write_word(payload: &mut [u8], k: usize)
     requires { (k < 8) × (length payload.old ≡ 2040) }
     ensures { payload.new ≡ with_parity k payload.old }

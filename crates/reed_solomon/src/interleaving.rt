@@ -26,7 +26,8 @@ pub fn remainders(payload: &[u8]) -> [u8; 128]
     crate::plus(parity_bytes(data), last)
 }
 
-// Every eighth byte from k on: word k of a payload, or what division leaves of it.
+// Every eighth byte from k on: word k of a payload, or what division leaves of it. A loop, as `values::step` of crate nearest is one: in a generic function
+// the check learns nothing of an array from the closure that `from_fn` calls. A type for k below 8 would be made and taken apart at each call.
 pub fn gathered<const N: usize>(bytes: &[u8], k: usize) -> [u8; N]
     requires { (k < 8) × (length bytes.now ≡ 8 * N) }
     ensures { result ≡ every_eighth N k bytes.now }

@@ -70,7 +70,7 @@ fn repair_header(body: &mut [u8; 2072], remainder: [u8; 16]) -> bool
 }
 
 // The eight words of a payload repaired; and whether a codeword is near each. The payload is a slice with its length in a clause: as an array this part of a
-// body would be an Option, and each call would have an arm that nothing reaches.
+// body would leave a test of its length in the code, as it does in `number_at` of crate lent.
 fn repair_words(payload: &mut [u8], remainders: [u8; 128]) -> bool
     requires { (length payload.old ≡ 2040) × (remainders ≡ entries (remainder_byte payload.old) 0 128) }
     ensures { (result ≡ words_near payload.old) × (payload.new ≡ repaired_payload payload.old) }
@@ -100,7 +100,7 @@ fn repair_word(payload: &mut [u8], remainder: [u8; 16], k: usize) -> bool
     true
 }
 
-// Writes word k: its bytes are every eighth.
+// Writes word k: its bytes are every eighth, so each goes by an index to a place of its own.
 fn write_word(payload: &mut [u8], word: [u8; 255], k: usize)
     requires { (k < 8) × (length payload.old ≡ 2040) }
     ensures { payload.new ≡ spread word k payload.old }

@@ -29,7 +29,7 @@ pub fn repair(taps: u32, part: &[u8], scratch: &mut [u8]) -> Result<u8, Refusal>
     Ok(near.wrong)
 }
 
-// 1 and 2.
+// Refusals: 1, 2.
 #[tactic(auto, unfolding(refusals::specs::Table::first_of, refusals::specs::Table::by, refusals::specs::Numbers::refusal_of))]
 fn judge_outer(taps: u32, part: &[u8], scratch: &[u8]) -> Result<(), Refusal>
     ensures { result ≡ judged_by (first_of (take 2 (repair_table taps part.now scratch.now))) }
@@ -43,7 +43,7 @@ fn judge_outer(taps: u32, part: &[u8], scratch: &[u8]) -> Result<(), Refusal>
     Ok(())
 }
 
-// 8 and 12.
+// Refusals: 8, 12.
 #[tactic(auto, unfolding(refusals::specs::Table::first_of, refusals::specs::Table::by, refusals::specs::Numbers::refusal_of))]
 fn judge_near(header: bool, words: bool) -> Result<(), Refusal>
     ensures { result ≡ judged_by (first_of (8 unless header ∷ 12 unless words ∷ [])) }

@@ -21,7 +21,8 @@ fn first_bytes(taps: u32) -> [u64; 100]
     numbers
 }
 
-// Of 25 N numbers, of which every N-th follows the recurrence, makes 50 N, N at a time.
+// Of 25 N numbers, of which every N-th follows the recurrence, makes 50 N, N at a time. By an index, here and in `pair`: what is read and what is written stand
+// in one array.
 pub fn extend<const N: usize>(recurrence: &Recurrence, numbers: &mut [u64; 100])
     requires { 50 * N ≤ 100 }
     ensures { Extends N (places_from 25 0 recurrence.now.taps) numbers.old numbers.new }

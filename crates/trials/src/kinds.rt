@@ -1,5 +1,5 @@
 // The kinds of record: which crate tries one, and its line in the table. Numbers are never used for another kind. They stay numbers and become no enum, which
-// would write each down once more: each is read in one place alone, the match of the crate that tries it.
+// would write each down once more, beside the ranges here and the match of the crate that tries it.
 use outcome::Outcome;
 use std::io;
 use std::io::Write;

@@ -37,7 +37,7 @@ pub fn kept() -> Lent {
     repeated(b"kept")
 }
 
-// The same, with some bytes at the front.
+// The same, with some bytes at the front; a function of its own, since it stands behind others than zeros and is longer.
 pub fn kept_behind(front: &[u8]) -> Lent
     requires { length front.now ≤ 2100 }
 {
