@@ -4,8 +4,9 @@ use borrow.Rule.Slice.Shared.{by_byte}
 use native.Mathlib.Nat.{zero-add}
 use mathlib.Core.Path.{◌≡◌, ap, ◌∙◌}
 use Prim.Native.Nat.{ℕ}
-use mathlib.Core.Bool.{false}
+use mathlib.Core.Bool.{Bool, false, true}
 use lib.Dec.{eqb}
+use Rattle.std.proofs.Common.{List, Bor, Result, cond, leb, length, take, []}
 use Rattle.std.specs.Prelude.{Ok}
 use borrow.Author.Rules.{rules}
 use Rattle.repairing.specs.Repairing.{shown_bytes, shown_place}
@@ -14,6 +15,17 @@ use Rattle.repairing.proofs.shown.Goals as goal
 from_start : (place : ℕ × ℕ) → (place.0, by_byte 0 place.1) ≡ place
 from_start place = ap (λ n. (place.0, n)) (zero-add place.1)
 
+-- where bytes were wrong, the scratch's first 2,072 or, if it has fewer, none
+of_scratch : {E : Type 0} (answer : Result ℕ E) (count : ℕ) (part scratch : Bor (List ℕ)) (enough : Bool) → answer ≡ Ok count → eqb count 0 ≡ false
+    → leb 2072 (length scratch.now) ≡ enough
+    → record {
+      result_value : cond enough (take 2072 scratch.now) [] ≡ shown_bytes answer part.now scratch.now;
+      place : (scratch.ref_ptr.0, by_byte 0 scratch.ref_ptr.1) ≡ shown_place answer part scratch;
+    }
+unfolding shown_bytes shown_place
+of_scratch answer count part scratch enough told some fits =
+    record { result_value = simp (told, some, fits); place = from_start scratch.ref_ptr ∙ simp (told, some) }
+
 pub returns-in-Ok-eq0 : goal.returns-in-Ok-eq0
 unfolding shown_bytes shown_place
 returns-in-Ok-eq0 g c =
@@ -21,20 +33,12 @@ returns-in-Ok-eq0 g c =
     record { result_value = simp told; place = simp told }
 
 pub returns-then-scratch-lt2072 : goal.returns-then-scratch-lt2072
-unfolding shown_bytes shown_place
 returns-then-scratch-lt2072 g c =
-    let told = c.in-Ok.is in
-    let some : eqb c.in-Ok.field-0 0 ≡ false = search rules in
-    let place = c.args.scratch.ref_ptr in
-    record { result_value = simp (told, some, lt-leb _ _ c.if-scratch-lt2072.true); place = from_start place ∙ simp (told, some) }
+    of_scratch c.args.answer c.in-Ok.field-0 c.args.part c.args.scratch false c.in-Ok.is (search rules) (lt-leb _ _ c.if-scratch-lt2072.true)
 
 pub returns-else-scratch-lt2072 : goal.returns-else-scratch-lt2072
-unfolding shown_bytes shown_place
 returns-else-scratch-lt2072 g c =
-    let told = c.in-Ok.is in
-    let some : eqb c.in-Ok.field-0 0 ≡ false = search rules in
-    let place = c.args.scratch.ref_ptr in
-    record { result_value = simp (told, some, le-leb _ _ c.if-scratch-lt2072.false); place = from_start place ∙ simp (told, some) }
+    of_scratch c.args.answer c.in-Ok.field-0 c.args.part c.args.scratch true c.in-Ok.is (search rules) (le-leb _ _ c.if-scratch-lt2072.false)
 
 pub returns-in-Err : goal.returns-in-Err
 unfolding shown_bytes shown_place
