@@ -99,11 +99,7 @@ pub fn refused<W: Write>(out: &mut W, refusal: Refusal) -> io::Result<()> {
 // A block that came out, told from a column on. Answers the column behind it.
 pub fn out<W: Write>(out: &mut W, column: usize, block: u16) -> io::Result<usize> {
     write!(out, " {block}")?;
-    Ok(
-        column
-            .saturating_add(digits_of(block as u64))
-            .saturating_add(1),
-    )
+    Ok(column.wrapping_add(digits_of(block as u64)).wrapping_add(1))
 }
 
 // What the recorder keeps and how many gaps it knows of, told behind a column.

@@ -19,7 +19,7 @@ impl Totals {
         Totals {
             received: self.received.saturating_add(1),
             repaired: self.repaired.saturating_add(u64::from(0 < repaired)),
-            missed: self.missed.saturating_add(missed as u64),
+            missed: self.missed.wrapping_add(missed as u64),
             ..self
         }
     }
