@@ -1,6 +1,6 @@
 -- The theorems of the header (demand 2): what is coded is read back, whatever the reserved bits beside it; what is read is what was coded, with the
 -- reserved bits that came; so coding it again gives the same bytes exactly where these were ones.
-use mathlib.Core.Path.{◌≡◌, refl, sym, ap, ◌∙◌}
+use mathlib.Core.Path.{◌≡◌, sym, ap, ◌∙◌}
 use mathlib.Core.Logic.{◌↔◌}
 use mathlib.Core.Bool.{true}
 use mathlib.Core.List.{List}

@@ -1,6 +1,6 @@
 -- What a receiver reads from the 16 bytes of a header, d0 to d15 (Tables 2-9 and 2-10; 01, "The frame on the wire"), and what read_header does, for all
 -- inputs. A refusal's number is 0 where nothing is refused (01, "Refusal numbers").
-use Rattle.std.specs.Prelude.{Bool, cond, ◌&&◌, List, [], ◌∷◌, ◌≡◌, ℕ, ◌/◌, ◌%◌, eqb, length, get_or, take, drop, Result}
+use Rattle.std.specs.Prelude.{Bool, ◌&&◌, List, [], ◌∷◌, ◌≡◌, ℕ, ◌/◌, ◌%◌, eqb, length, get_or, take, drop, Result}
 use Rattle.basics.specs.Lists.{same}
 use Rattle.basics.specs.Numbers.{digit, high_first, number_at}
 use Rattle.refusals.specs.Numbers.{answer_by}

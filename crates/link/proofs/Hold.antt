@@ -8,7 +8,7 @@ use native.Mathlib.Omega.{arith}
 use lib.Dec.{leb}
 use lib.ListN.{length, length-append}
 use borrow.Author.Tests.{leb-true}
-use Rattle.link.specs.Link.{Packet, ArePackets, Piece, on_piece, on_pieces, most_joined, fits_piece, fits, missed, held_after}
+use Rattle.link.specs.Link.{Packet, ArePackets, Piece, on_piece, on_pieces, most_joined, fits, missed, held_after}
 use Rattle.link.proofs.Machine.{Receiver, receive_with, receive}
 use Rattle.link.proofs.Reassembly.{Filled}
 
@@ -20,12 +20,6 @@ AllFirst (p ∷ ps) = (p.first ≡ true) × (length p.bytes ≤ 8999) × AllFirs
 abbrev pub Shape : List Piece → Type 0
 Shape [] = Unit {0}
 Shape (p ∷ ps) = (length p.bytes ≤ 8999) × AllFirst ps
-
--- a piece that goes on with what is held fits by the sum
-pub fits_by_sum : (held : List ℕ) (first last : Bool) (bytes : List ℕ) → first ≡ false → (length held ≡ 0 → ⊥)
-    → fits_piece held first last bytes ≡ leb (length held + length bytes) (most_joined last)
-fits_by_sum [] first last bytes e n = absurd (n refl)
-fits_by_sum (x ∷ held) first last bytes e n = rw e
 
 first_bound : (h : List ℕ) (last : Bool) (b : List ℕ) → length b ≤ 8999 → length (on_piece h true last b).held ≤ 8999
 first_bound h true b k = omega arith

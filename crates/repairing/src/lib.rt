@@ -3,7 +3,7 @@
 
 pub mod body;
 
-ghost use Rattle.std.specs.Prelude.{◌≡◌, cond, [], ◌∷◌, ◌≤◌, eqb, length, take};
+ghost use Rattle.std.specs.Prelude.{◌≡◌, [], ◌∷◌, ◌≤◌, length, take};
 ghost use Rattle.refusals.specs.Numbers.{judged_by};
 ghost use Rattle.refusals.specs.Table.{◌unless◌, first_of};
 ghost use Rattle.lent.specs.Written.{written};

@@ -1,6 +1,6 @@
 // The key in words of eight bytes. A recurrence over bits modulo 2 holds for every second of the numbers that follow it too, hence for numbers of 8, 16, 32
 // and 64 bits of the key: 25 numbers of one width give 50, and two neighbours make one of twice the width.
-ghost use Rattle.std.specs.Prelude.{◌≡◌, ℕ, ◌*◌, ◌^◌, ◌≤◌, ◌<◌, get_or};
+ghost use Rattle.std.specs.Prelude.{ℕ, ◌*◌, ◌^◌, ◌≤◌, ◌<◌, get_or};
 ghost use Rattle.scrambler.specs.Scrambler.{key_byte};
 ghost use Rattle.scrambler.specs.Keys.{key_number, places_from, Holds, Extends, Paired, Moved};
 

@@ -1,5 +1,5 @@
 -- Byte by byte: each is every eighth from k on (`eighth_at`), so that all N are.
-use Rattle.std.proofs.Common.{◌≡◌, length, rules, arith, sym}
+use Rattle.std.proofs.Common.{length, arith, sym}
 use lib.ListN.{length-replicate, length-set}
 use Rattle.basics.proofs.Fill.{filled_more, filled_all}
 use Rattle.reed_solomon.specs.Payload.{every_eighth}
