@@ -3,7 +3,6 @@
 
 mod judging;
 
-ghost use Rattle.std.specs.Prelude.{◌≡◌};
 ghost use Rattle.opening.specs.Opening.{OpenOutcome};
 
 use header::Header;

@@ -5,7 +5,7 @@ ghost use Rattle.std.specs.Prelude.{◌≡◌, cond, eqb};
 ghost use Rattle.refusals.specs.Numbers.{judged_by};
 ghost use Rattle.refusals.specs.Table.{first_of};
 ghost use Rattle.link.specs.Link.{missed};
-ghost use Rattle.receiver.specs.Applying.{fresh_receiver, expected_number, receiver_then, pieces_of, are_sized};
+ghost use Rattle.receiver.specs.Applying.{fresh_receiver, expected_number, pieces_of, are_sized};
 ghost use Rattle.receiver.specs.Applying.{buffers_table, area_table, opened_table, ApplyOutcome};
 
 use basics::sizes;

@@ -1,5 +1,5 @@
 // Taking the next frame's records off the ring: the area is filled, then what was sent is freed.
-ghost use Rattle.std.specs.Prelude.{◌≡◌, true, cond, ◌+◌, ◌≤◌, ◌<◌, length, take, drop, IfSome};
+ghost use Rattle.std.specs.Prelude.{◌≡◌, true, ◌+◌, ◌≤◌, ◌<◌, length, take, drop, IfSome};
 ghost use Rattle.basics.specs.Lists.{zeros};
 ghost use Rattle.basics.specs.Sizes.{area_size, most_held, queue_size};
 ghost use Rattle.lent.specs.Written.{written};

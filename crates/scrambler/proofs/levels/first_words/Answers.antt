@@ -8,6 +8,7 @@ use Rattle.scrambler.proofs.Follows.{level}
 use Rattle.scrambler.proofs.Holds.{level_extends, level_paired, level_below, level_one}
 use Rattle.scrambler.proofs.levels.first_words.Goals as goal
 
+-- what each call to `extend` leaves: 50 numbers of one byte, of two, of four
 module _ (taps : ℕ) {bytes ones : List ℕ} (start : Holds (key_byte taps) 25 bytes) (more : Extends 1 (places_from 25 0 taps) bytes ones) where
   one : Holds (level taps 1) 50 ones
   one = level_extends taps 0 more (level_one taps start)
@@ -21,19 +22,25 @@ module _ (taps : ℕ) {bytes ones : List ℕ} (start : Holds (key_byte taps) 25 
       four = level_extends taps 2 more-3 (level_paired taps 2 paired-2 two)
 
 pub pair-requires : goal.pair-requires
-pair-requires c = (level_below c.args.recurrence.now.taps 1 (one c.args.recurrence.now.taps c.first_bytes-numbers.ensures c.extend.ensures), lit≤ tt)
+pair-requires c =
+    let taps = c.args.recurrence.now.taps in
+    let ones = one taps c.first_bytes-numbers.ensures c.extend.ensures in
+    (level_below taps 1 ones, lit≤ tt)
 
 pub pair-requires-2 : goal.pair-requires-2
 pair-requires-2 c =
-    (level_below c.args.recurrence.now.taps 2 (two c.args.recurrence.now.taps c.first_bytes-numbers.ensures c.extend.ensures c.pair.ensures c.extend-2.ensures), lit≤ tt)
+    let taps = c.args.recurrence.now.taps in
+    let twos = two taps c.first_bytes-numbers.ensures c.extend.ensures c.pair.ensures c.extend-2.ensures in
+    (level_below taps 2 twos, lit≤ tt)
 
 pub pair-requires-3 : goal.pair-requires-3
 pair-requires-3 c =
-    let fours = four c.args.recurrence.now.taps c.first_bytes-numbers.ensures c.extend.ensures c.pair.ensures c.extend-2.ensures c.pair-2.ensures c.extend-3.ensures in
-    (level_below c.args.recurrence.now.taps 4 fours, lit≤ tt)
+    let taps = c.args.recurrence.now.taps in
+    let fours = four taps c.first_bytes-numbers.ensures c.extend.ensures c.pair.ensures c.extend-2.ensures c.pair-2.ensures c.extend-3.ensures in
+    (level_below taps 4 fours, lit≤ tt)
 
 pub returns : goal.returns
 returns c =
     let taps = c.args.recurrence.now.taps in
-    let fours = four c.args.recurrence.now.taps c.first_bytes-numbers.ensures c.extend.ensures c.pair.ensures c.extend-2.ensures c.pair-2.ensures c.extend-3.ensures in
+    let fours = four taps c.first_bytes-numbers.ensures c.extend.ensures c.pair.ensures c.extend-2.ensures c.pair-2.ensures c.extend-3.ensures in
     level_extends taps 3 c.extend-4.ensures (level_paired taps 4 c.pair-3.ensures fours)
