@@ -36,8 +36,8 @@ pub fn values_at<const N: usize>(numbers: [u8; N], polynomial: &[u8]) -> [u8; N]
     ensures { (i : ℕ) → i < N → get_or result i 0 ≡ value_at (get_or numbers.entry i 0) polynomial.now }
 {
     let mut values = [0u8; N];
-    for i in (0..polynomial.len()).rev() {
-        values = step(numbers, values, polynomial[i]);
+    for coefficient in polynomial.iter().rev() {
+        values = step(numbers, values, *coefficient);
     }
     values
 }
