@@ -1,5 +1,8 @@
 // The input: the number of records in four bytes; then each record as its kind, one byte, the length of its body, two
 // bytes, and the body. Numbers have their highest byte first.
+ghost use Rattle.std.specs.Prelude.{◌≡◌, ◌<◌, ◌↔◌, ◌++◌, length, take, drop, IfOk, IsErr};
+ghost use Rattle.std.specs.Int.{from_be_bytes, w16};
+
 use outcome::Malformed;
 use std::io::Read;
 
@@ -39,13 +42,20 @@ pub fn is_at_end<R: Read>(input: &mut R) -> bool {
 }
 
 // The first bytes of a body or of a part of one, and what stands behind them.
-pub fn front<const N: usize>(body: &[u8]) -> Result<([u8; N], &[u8]), Malformed> {
+pub fn front<const N: usize>(body: &[u8]) -> Result<([u8; N], &[u8]), Malformed>
+    ensures found { IfOk result (λ r. r.0 ++ r.1.now ≡ body.now) }
+    ensures short { IsErr result ↔ (length body.now < N) }
+{
     let (first, rest) = body.split_first_chunk().ok_or(Malformed)?;
     Ok((*first, rest))
 }
 
 // A length in the first two bytes, and what stands behind it.
-pub fn length(body: &[u8]) -> Result<(usize, &[u8]), Malformed> {
+pub fn length(body: &[u8]) -> Result<(usize, &[u8]), Malformed>
+    ensures number { IfOk result (λ r. r.0 ≡ from_be_bytes w16 (take 2 body.now)) }
+    ensures behind { IfOk result (λ r. r.1.now ≡ drop 2 body.now) }
+    ensures short { IsErr result ↔ (length body.now < 2) }
+{
     let (length, rest) = front(body)?;
     Ok((usize::from(u16::from_be_bytes(length)), rest))
 }
