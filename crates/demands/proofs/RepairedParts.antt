@@ -37,7 +37,7 @@ head_near : (x y : ℕ) (rest : List ℕ) → NearPart (x ∷ rest) (y ∷ rest)
 unfolding differences
 head_near x y rest = record {
   header_near = omega (arith, one (eqb x y), differences_self (take 31 rest));
-  words_near_lem = λ k h. self_near (every_eighth 255 k (drop 31 rest));
+  each_near = λ k h. self_near (every_eighth 255 k (drop 31 rest));
 }
   where
     one : (t : Bool) → cond t 0 1 ≤ 1

@@ -1,33 +1,15 @@
--- Turns of the loops that find the places: the values at all numbers, and the places where they are 0.
+-- Turns of the loop that finds the places where the values are 0.
 use mathlib.Core.Path.{◌≡◌, refl, sym, ap, ap₂, ◌∙◌}
 use mathlib.Core.List.{List, [], ◌∷◌, ◌++◌, append-nil}
 use Prim.Native.Nat.{ℕ, zero, suc, ◌+◌, ◌-◌, ◌≤◌, ◌<◌}
 use native.Mathlib.Nat.{not-suc-le-zero, le_refl}
 use native.Mathlib.Numerals.{add-one}
 use native.Mathlib.Omega.{arith}
-use lib.Bits.{bit_xor}
-use lib.ListN.{length, get_or, set, take, drop, length-append, drop_of_length-le}
-use lib.Seq.{drop-cons, take-suc-set, length-take-le}
-use Rattle.field.specs.Field.{times}
+use lib.ListN.{length, get_or, set, take, length-append}
+use lib.Seq.{take-suc-set, length-take-le}
 use Rattle.reed_solomon.specs.Roots.{locator}
 use Rattle.nearest.specs.Search.{locators, pick, places, value_at}
 use Rattle.nearest.proofs.Arrays.{put_next}
-
-value_at_turn : (x : ℕ) (l : List ℕ) (i : ℕ) → i < length l → value_at x (drop i l) ≡ bit_xor (get_or l i 0) (times x (value_at x (drop (suc i) l)))
-unfolding value_at
-value_at_turn x l i h = ap (value_at x) (drop-cons l i 0 h)
-
-pub value_at_down : (x : ℕ) (l : List ℕ) (i v : ℕ) → 0 < i → i ≤ length l → v ≡ value_at x (drop i l)
-    → bit_xor (get_or l (i - 1) 0) (times x v) ≡ value_at x (drop (i - 1) l)
-value_at_down x l zero v p h e = absurd (not-suc-le-zero p)
-value_at_down x l (suc i) v p h e =
-    let q : suc i - 1 ≡ i = omega arith in
-    ap (λ (n : ℕ). bit_xor (get_or l n 0) (times x v)) q ∙ ap (λ (y : ℕ). bit_xor (get_or l i 0) (times x y)) e ∙ sym (value_at_turn x l i h)
-    ∙ ap (λ (n : ℕ). value_at x (drop n l)) (sym q)
-
-pub value_at_start : (x : ℕ) (l : List ℕ) → 0 ≡ value_at x (drop (length l) l)
-unfolding value_at
-value_at_start x l = ap (value_at x) (sym (drop_of_length-le l (le_refl (length l))))
 
 -- ---- the places where the values are 0
 

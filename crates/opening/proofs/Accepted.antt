@@ -44,7 +44,7 @@ module _ (taps : ℕ) (frame : List ℕ) (long : length frame ≡ 2081) (none : 
   arrived_length = unscrambled_length taps frame long
 
   coded : Coded body
-  coded = repaired_coded arrived arrived_length passed.header_near passed.words_near_lem
+  coded = repaired_coded arrived arrived_length passed.header_near passed.each_near
 
   header_length : length (header_part body) ≡ 16
   header_length = length-take-le 16 body (omega (arith, coded.long))

@@ -153,7 +153,7 @@ module _ (taps : ℕ) (reserved : ReservedBits) (header : Header) (area : List �
             header_read = ap (λ (l : List ℕ). first_of (header_table (header_part l))) came_body
                 ∙ ap (λ (l : List ℕ). first_of (header_table l)) body_fields
                 ∙ none_refused reserved header (sendable header h);
-            words_near_lem = sent_words_near (unscrambled taps came) body came_length body_coded came_near;
+            each_near = sent_words_near (unscrambled taps came) body came_length body_coded came_near;
             checked = ap area_checked came_body ∙ area_checked_lem;
           }
 

@@ -60,7 +60,7 @@ pub record Passed (taps : ℕ) (frame : List ℕ) : Type 0 where
   pub begins : take 9 frame ≡ preamble
   pub header_near : is_some (near_header (take 32 (unscrambled taps frame))) ≡ true
   pub header_read : first_of (header_table (header_part (repaired_body (unscrambled taps frame)))) ≡ 0
-  pub words_near_lem : words_near (drop 32 (unscrambled taps frame)) ≡ true
+  pub each_near : words_near (drop 32 (unscrambled taps frame)) ≡ true
   pub checked : area_checked (repaired_body (unscrambled taps frame)) ≡ true
 
 module _ (words : Bool) (body : List ℕ) where
@@ -93,7 +93,7 @@ module _ (taps : ℕ) (frame : List ℕ) where
         begins = same_true (take 9 frame) preamble seven.0;
         header_near = eight.0;
         header_read = header.0;
-        words_near_lem = twelve.0;
+        each_near = twelve.0;
         checked = (unless_passed 13 (area_checked after) [] (lit< tt) twelve.1).0;
       }
 
@@ -101,7 +101,7 @@ module _ (taps : ℕ) (frame : List ℕ) where
   unfolding first_of
   frame_passes p =
       rw (ap (λ (l : List ℕ). same l preamble) p.begins ∙ same_self preamble, p.header_near)
-      (payload_then (words_near (drop 32 body)) after p.header_read ∙ rw (p.words_near_lem, p.checked))
+      (payload_then (words_near (drop 32 body)) after p.header_read ∙ rw (p.each_near, p.checked))
 
 -- ---- the rows 1 and 2, before them
 

@@ -51,7 +51,7 @@ module _ (came sent : List ℕ) (long : length came ≡ 2072) (coded : Coded sen
       near_one word (eighth_length 255 k (drop 32 came)) own (
         eighth_bytes 255 k (drop 32 sent) (bytes_drop 32 sent coded.bytes),
         codeword_true own ((true_codewords (drop 32 sent) coded.words).each k h),
-        turned word own (near.words_near_lem k h),
+        turned word own (near.each_near k h),
       )
 
   pub sent_header_near : is_some (near_header (take 32 came)) ≡ true
@@ -84,7 +84,7 @@ module _ (came sent : List ℕ) (long : length came ≡ 2072) (coded : Coded sen
 -- ---- a part is near itself
 
 pub near_itself : (part : List ℕ) → NearPart part part
-near_itself part = record { header_near = self_near (take 32 part); words_near_lem = λ k h. self_near (every_eighth 255 k (drop 32 part)) }
+near_itself part = record { header_near = self_near (take 32 part); each_near = λ k h. self_near (every_eighth 255 k (drop 32 part)) }
 
 -- ---- what is repaired
 
@@ -102,7 +102,7 @@ module _ (came : List ℕ) (long : length came ≡ 2072) where
     header_near =
         turned (take 32 (repaired_body came)) (take 32 came)
         (subst (λ (l : List ℕ). differences l (take 32 came) ≤ 8) (sym repaired_front) (header_few (take 32 came) (header_size came long)));
-    words_near_lem = λ k h.
+    each_near = λ k h.
         turned (every_eighth 255 k (drop 32 (repaired_body came))) (every_eighth 255 k (drop 32 came))
         (subst (λ (l : List ℕ). differences (every_eighth 255 k l) (every_eighth 255 k (drop 32 came)) ≤ 8) (sym repaired_behind) (words_few came long k h));
   }

@@ -67,5 +67,5 @@ module _ (taps : ℕ) (a b : List ℕ) (same : length a ≡ length b) where
     pub scrambled_near : NearPart a b → NearPart a' b'
     scrambled_near near = record {
       header_near = subst (λ (n : ℕ). n ≤ 8) (sym header_scrambled) near.header_near;
-      words_near_lem = λ k h. subst (λ (n : ℕ). n ≤ 8) (sym (word_scrambled k h)) (near.words_near_lem k h);
+      each_near = λ k h. subst (λ (n : ℕ). n ≤ 8) (sym (word_scrambled k h)) (near.each_near k h);
     }

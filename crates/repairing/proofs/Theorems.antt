@@ -39,19 +39,19 @@ module _ (taps : ℕ) (part scratch : List ℕ) (none : repair_refusal taps part
   header_near : is_some (near_header (take 32 body)) ≡ true
   header_near = (unless_passed 8 (is_some (near_header (take 32 body))) _ (lit< tt) passed.1).0
 
-  words_near_lem : words_near (drop 32 body) ≡ true
-  words_near_lem =
+  each_near : words_near (drop 32 body) ≡ true
+  each_near =
       (unless_passed 12 (words_near (drop 32 body)) [] (lit< tt) (unless_passed 8 (is_some (near_header (take 32 body))) _ (lit< tt) passed.1).1).0
 
   pub repaired_is_coded : Coded (scrambled taps (repaired taps part))
   unfolding repaired
-  repaired_is_coded = subst Coded (sym (scrambled_twice taps (repaired_body body))) (repaired_coded body body_length header_near words_near_lem)
+  repaired_is_coded = subst Coded (sym (scrambled_twice taps (repaired_body body))) (repaired_coded body body_length header_near each_near)
 
   pub repaired_is_near : NearPart part (repaired taps part)
   unfolding repaired
   repaired_is_near =
       subst (λ (l : List ℕ). NearPart l (scrambled taps (repaired_body body))) (scrambled_twice taps part)
-      (scrambled_near taps body (repaired_body body) (body_length ∙ sym (repaired_coded body body_length header_near words_near_lem).long) body_length
+      (scrambled_near taps body (repaired_body body) (body_length ∙ sym (repaired_coded body body_length header_near each_near).long) body_length
       (repaired_near body body_length))
 
 -- ---- a part near a coded one is repaired to it

@@ -16,4 +16,4 @@ pub record Coded (body : List ℕ) : Type 0 where
 -- what came, and what was sent; scrambled alike, they differ where they would unscrambled
 pub record NearPart (came sent : List ℕ) : Type 0 where
   pub header_near : differences (take 32 came) (take 32 sent) ≤ 8
-  pub words_near_lem : (k : ℕ) → k < 8 → differences (every_eighth 255 k (drop 32 came)) (every_eighth 255 k (drop 32 sent)) ≤ 8
+  pub each_near : (k : ℕ) → k < 8 → differences (every_eighth 255 k (drop 32 came)) (every_eighth 255 k (drop 32 sent)) ≤ 8
