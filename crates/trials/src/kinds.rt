@@ -7,46 +7,6 @@ use vectors::buffers::Buffers;
 use vectors::tally;
 use vectors::tally::Tally;
 
-// Every kind, from 1 on.
-const NAMES: [&str; 36] = [
-    "CRC-16",
-    "CRC-32",
-    "power of 2",
-    "parity",
-    "codeword judged",
-    "payload coded",
-    "payload judged",
-    "taps judged",
-    "bytes scrambled",
-    "level",
-    "header coded",
-    "header read",
-    "frame built",
-    "frame opened",
-    "frame refused",
-    "queue begun",
-    "queue changed",
-    "packet put",
-    "next frame",
-    "queue in full",
-    "hold and list begun",
-    "frame opened and applied",
-    "list changed",
-    "list read",
-    "list in full",
-    "hold in full",
-    "area applied",
-    "parity, plain form",
-    "codeword judged, plain form",
-    "payload coded, plain form",
-    "payload judged, plain form",
-    "bytes scrambled, plain form",
-    "waiting counted",
-    "frame changed",
-    "part repaired",
-    "part shown",
-];
-
 // A planted record is tried as any other of its kind.
 pub fn outcome(given: u8, body: &mut [u8], buffers: &mut Buffers) -> Outcome {
     let kind = given.checked_sub(tally::PLANTED).unwrap_or(given);
@@ -60,8 +20,47 @@ pub fn outcome(given: u8, body: &mut [u8], buffers: &mut Buffers) -> Outcome {
 }
 
 pub fn print<W: Write>(out: &mut W, tally: &Tally) -> io::Result<()> {
+    // Every kind, from 1 on.
+    let names = [
+        "CRC-16",
+        "CRC-32",
+        "power of 2",
+        "parity",
+        "codeword judged",
+        "payload coded",
+        "payload judged",
+        "taps judged",
+        "bytes scrambled",
+        "level",
+        "header coded",
+        "header read",
+        "frame built",
+        "frame opened",
+        "frame refused",
+        "queue begun",
+        "queue changed",
+        "packet put",
+        "next frame",
+        "queue in full",
+        "hold and list begun",
+        "frame opened and applied",
+        "list changed",
+        "list read",
+        "list in full",
+        "hold in full",
+        "area applied",
+        "parity, plain form",
+        "codeword judged, plain form",
+        "payload coded, plain form",
+        "payload judged, plain form",
+        "bytes scrambled, plain form",
+        "waiting counted",
+        "frame changed",
+        "part repaired",
+        "part shown",
+    ];
     writeln!(out, "compared different kind")?;
-    tally.print_kinds(out, 1, &NAMES)?;
+    tally.print_kinds(out, 1, &names)?;
     writeln!(out, "planted different kind")?;
-    tally.print_kinds(out, 1 + usize::from(tally::PLANTED), &NAMES)
+    tally.print_kinds(out, 1 + usize::from(tally::PLANTED), &names)
 }
