@@ -6,6 +6,7 @@ use reed_solomon::interleaving;
 pub trait Form {
     fn parity_of(data: &[u8]) -> [u8; 16];
 
+    // That a word has 16 bytes or more stands here and in what both forms ask: a type for it would ask more of their callers.
     fn is_codeword(word: &[u8]) -> bool
         requires { 16 ≤ length word.now };
 

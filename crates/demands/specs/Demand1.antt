@@ -73,7 +73,8 @@ pub record EveryCall : Type 1 where
       → RefusesByTable {Lent = Unit {0}} (λ answer after. EntryOutcome list position answer) tt (entry_table list position)
   -- the bytes handed back after a repair and where they stand; an empty part at a refusal of `repair`
   pub shown : {E : Type 0} (answer : Result ℕ E) (part scratch : Bor (List ℕ))
-      → RefusesNothing {Answer = List ℕ × (ℕ × ℕ)} (λ r. (r.0 ≡ shown_bytes answer part.now scratch.now) × (r.1 ≡ shown_place answer part scratch))
+      → RefusesNothing {Answer = List ℕ × (ℕ × ℕ)}
+      (λ r. (r.0 ≡ shown_bytes answer part.now scratch.now) × (r.1 ≡ shown_place answer part scratch))
   -- the bytes handed back and where they stand; an empty part at an end or a refusal of `entry`
   pub packet : (list : List ℕ) (from : ℕ × ℕ) (position : ℕ)
       → RefusesNothing {Answer = List ℕ × (ℕ × ℕ)} (λ answer. PacketOutcome list from position answer.0 answer.1)

@@ -3,7 +3,8 @@
 -- rules of an area) and `HoldsQueue` (the layout of a queue). What may arrive is the same with reserved bits of any value (`header_bytes_with`,
 -- `frame_bytes_with`), since 02, M-100, and with at most 8 wrong bytes in the header and in each payload word (`NearFrame`), since 02, M-101, which are
 -- repaired. `demand2_holds` in proofs/Demand2.antt is the proof.
-use Rattle.std.specs.Prelude.{Result, Ok, ◌≡◌, ◌↔◌, true, false, cond, List, [], ℕ, ◌+◌, ◌*◌, ◌%◌, ◌≤◌, ◌<◌, ltb, length, get_or, take}
+use Rattle.std.specs.Prelude.{◌≡◌, ◌↔◌, true, false, cond, List, [], ℕ, ◌+◌, ◌*◌, ◌%◌, ◌≤◌, ◌<◌, ltb, length, get_or, take}
+use Rattle.std.specs.Prelude.{Result, Ok}
 use Rattle.std.proofs.Math.Option.{some}
 use Rattle.std.specs.Int.Bits.{bit_xor}
 use Rattle.basics.specs.Lists.{zeros, Bytes}

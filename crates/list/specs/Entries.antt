@@ -1,6 +1,7 @@
 -- Reading the list of packets received (01, "Reading the list"), from a position and for all inputs. An entry is a two-byte length, high
 -- byte first, and the packet. `entry` answers by numbers, `packet` hands back the packet's bytes.
-use Rattle.std.specs.Prelude.{◌≡◌, cond, not, ◌&&◌, List, [], ◌∷◌, ℕ, zero, suc, ◌+◌, ◌*◌, eqb, leb, length, get_or, take, drop, Some, None, Result, Ok, Err}
+use Rattle.std.specs.Prelude.{◌≡◌, cond, not, ◌&&◌, List, [], ◌∷◌, ℕ, zero, suc, ◌+◌, ◌*◌, eqb, leb, length, get_or, take, drop}
+use Rattle.std.specs.Prelude.{Some, None, Result, Ok, Err}
 use Rattle.std.specs.Prelude as code
 use Rattle.std.proofs.Math.Option.{Option, none, some, map}
 use Rattle.basics.specs.Sizes.{most_packet}

@@ -1,6 +1,7 @@
 -- Applying an opened frame (01, "Receiving"; 02, M-106), for all inputs: what was missed and what is still held, the records of the area and what they do, the
 -- refusals, and what is written back. What one record does is `on_piece`, and what 15 asks is `fits`, both in crates/link/specs/Link.antt.
-use Rattle.std.specs.Prelude.{◌≡◌, Bool, true, false, cond, ◌&&◌, List, [], ◌∷◌, ◌++◌, ℕ, eqb, leb, length, take, Some, None, Result, Ok, Err}
+use Rattle.std.specs.Prelude.{◌≡◌, Bool, true, false, cond, ◌&&◌, List, [], ◌∷◌, ◌++◌, ℕ, eqb, leb, length, take}
+use Rattle.std.specs.Prelude.{Some, None, Result, Ok, Err}
 use Rattle.std.specs.Prelude as code
 use Rattle.std.proofs.Math.Option.{Option, none, some}
 use Rattle.basics.specs.Sizes.{area_size, most_held, hold_size, list_size}
