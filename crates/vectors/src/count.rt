@@ -31,7 +31,7 @@ impl Count {
         }
     }
 
-    // A number that was found, beside the one that is published, in so many digits.
+    // A number that was found, beside the one that is published, in so many digits: at most 16, which a number of 64 bits has.
     pub fn with_number<W: Write>(
         self,
         out: &mut W,
@@ -40,9 +40,10 @@ impl Count {
         published: u64,
         digits: usize,
     ) -> io::Result<Count> {
+        let width = digits.min(16);
         writeln!(
             out,
-            "{name} is {found:0digits$x}, published {published:0digits$x}"
+            "{name} is {found:0width$x}, published {published:0width$x}"
         )?;
         Ok(self.with(found == published))
     }
