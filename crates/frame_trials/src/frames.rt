@@ -11,7 +11,7 @@ use vectors::{digest, lent_bytes, record};
 // Taps, the fields of a header, the frame, the area: the frame is built from the others, and compared bit for bit.
 pub fn built(body: &[u8], at_hand: &mut Lent) -> Outcome {
     let (taps, rest) = record::front(body)?;
-    let (header, rest) = fields::header(rest)?;
+    let (header, rest) = fields::front(rest)?;
     let (frame, pattern) = record::front::<{ sizes::FRAME_SIZE }>(rest)?;
     if pattern.is_empty() {
         return Err(Malformed);

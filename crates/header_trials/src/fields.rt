@@ -30,44 +30,36 @@ pub fn bytes(header: Header) -> [u8; 24] {
     bytes
 }
 
-// The message in the last seven bytes of a header: its kind, and its numbers.
-fn message(bytes: &[u8]) -> Result<FastChannel, Malformed> {
-    let ([kind], rest) = record::front::<1>(bytes)?;
-    let (first, rest) = record::front(rest)?;
-    let (second, rest) = record::front(rest)?;
-    let (third, _) = record::front(rest)?;
-    Ok(FastChannel::from(Message {
-        kind,
-        numbers: [
-            u16::from_be_bytes(first),
-            u16::from_be_bytes(second),
-            u16::from_be_bytes(third),
-        ],
-    }))
+// The header of 24 bytes. What no header has of them is lost: `front` tells where something is.
+pub fn header(bytes: &[u8; 24]) -> Header {
+    Header {
+        txfn: Txfn(u16::from_be_bytes([bytes[0], bytes[1]])),
+        kind: FrameKind::from(bytes[2]),
+        fields: Fields {
+            rxfn: Rxfn(u16::from_be_bytes([bytes[3], bytes[4]])),
+            ack: bytes[5] != 0,
+            valid: bytes[6] != 0,
+            stamp: u64::from_be_bytes([
+                bytes[7], bytes[8], bytes[9], bytes[10], bytes[11], bytes[12], bytes[13], bytes[14],
+            ]),
+            seconds: bytes[15],
+            applies: bytes[16],
+            message: FastChannel::from(Message {
+                kind: bytes[17],
+                numbers: [
+                    u16::from_be_bytes([bytes[18], bytes[19]]),
+                    u16::from_be_bytes([bytes[20], bytes[21]]),
+                    u16::from_be_bytes([bytes[22], bytes[23]]),
+                ],
+            }),
+        },
+    }
 }
 
 // The header in the first 24 bytes of a body, and what stands behind it. Bytes that are no header's, so that its bytes are others, are malformed.
-pub fn header(body: &[u8]) -> Result<(Header, &[u8]), Malformed> {
+pub fn front(body: &[u8]) -> Result<(Header, &[u8]), Malformed> {
     let (given, behind) = record::front::<24>(body)?;
-    let (txfn, rest) = record::front(&given)?;
-    let ([kind], rest) = record::front::<1>(rest)?;
-    let (rxfn, rest) = record::front(rest)?;
-    let ([ack, valid], rest) = record::front::<2>(rest)?;
-    let (stamp, rest) = record::front(rest)?;
-    let ([seconds, applies], rest) = record::front::<2>(rest)?;
-    let header = Header {
-        txfn: Txfn(u16::from_be_bytes(txfn)),
-        kind: FrameKind::from(kind),
-        fields: Fields {
-            rxfn: Rxfn(u16::from_be_bytes(rxfn)),
-            ack: ack != 0,
-            valid: valid != 0,
-            stamp: u64::from_be_bytes(stamp),
-            seconds,
-            applies,
-            message: message(rest)?,
-        },
-    };
+    let header = header(&given);
     if bytes(header) != given {
         return Err(Malformed);
     }

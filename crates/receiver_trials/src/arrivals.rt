@@ -86,7 +86,7 @@ pub fn arrived(body: &[u8], buffers: &mut Buffers) -> Outcome {
 // The fields of a header, the state, the lengths of area, hold and list; the answer, the digests of hold and list; the area without the zeros at its end.
 // An area has no fields in its answer: its header is given.
 pub fn applied(body: &[u8], buffers: &mut Buffers) -> Outcome {
-    let (header, rest) = fields::header(body)?;
+    let (header, rest) = fields::front(body)?;
     let given = Arrival::of(rest)?;
     if sizes::AREA_SIZE < given.rest.len() {
         return Err(Malformed);

@@ -48,7 +48,7 @@ fn output_outcome(output: &[u8], expected: &[u8], frame: &[u8]) -> Outcome {
 // of some frames every byte. A frame that is sent is then at hand.
 pub fn next_frame(body: &[u8], buffers: &mut Buffers) -> Outcome {
     let (taps, rest) = record::front(body)?;
-    let (header, rest) = fields::header(rest)?;
+    let (header, rest) = fields::front(rest)?;
     let (sender, rest) = states::sender(rest)?;
     let (length, rest) = record::length(rest)?;
     let (room, expected) = record::length(rest)?;
