@@ -1,4 +1,5 @@
-// The table of frames, printed from left to right: each part begins at the column where the one before it ends.
+// The table of frames, printed from left to right: each part begins at the column where the one before it ends. A refusal is told by its number, for any
+// number has its words: to take a `Refusal` would ask more.
 use crate::ledger::Blocks;
 use refusals::Refusal;
 use std::io;
@@ -35,8 +36,8 @@ pub fn nothing_put<W: Write>(out: &mut W) -> io::Result<()> {
     write!(out, "{:15}", "")
 }
 
-pub fn not_put<W: Write>(out: &mut W, block: u16, refusal: Refusal) -> io::Result<()> {
-    write!(out, "{block:>7} refused {:>2}", u8::from(refusal))
+pub fn not_put<W: Write>(out: &mut W, block: u16, refusal: u8) -> io::Result<()> {
+    write!(out, "{block:>7} refused {refusal:>2}")
 }
 
 // The blocks that a frame carries a part of.
@@ -53,8 +54,8 @@ pub fn idle<W: Write>(out: &mut W) -> io::Result<()> {
     write!(out, "{:11}", "idle")
 }
 
-pub fn not_sent<W: Write>(out: &mut W, refusal: Refusal) -> io::Result<()> {
-    write!(out, "refused {:>2}", u8::from(refusal))
+pub fn not_sent<W: Write>(out: &mut W, refusal: u8) -> io::Result<()> {
+    write!(out, "refused {refusal:>2}")
 }
 
 pub fn lost<W: Write>(out: &mut W) -> io::Result<()> {
@@ -82,18 +83,20 @@ pub fn received<W: Write>(
 }
 
 // What a refusal says of a damaged frame.
-fn reason(refusal: Refusal) -> &'static str {
-    match refusal {
-        Refusal::Length => ", cut short",
-        Refusal::Preamble => ", preamble",
-        Refusal::HeaderCode => ", header",
-        Refusal::PayloadCode => ", payload",
-        _ => "",
-    }
+fn reason(refusal: u8) -> &'static str {
+    let told = [
+        (Refusal::Length, ", cut short"),
+        (Refusal::Preamble, ", preamble"),
+        (Refusal::HeaderCode, ", header"),
+        (Refusal::PayloadCode, ", payload"),
+    ];
+    told.iter()
+        .find(|(named, _)| u8::from(*named) == refusal)
+        .map_or("", |(_, words)| words)
 }
 
-pub fn refused<W: Write>(out: &mut W, refusal: Refusal) -> io::Result<()> {
-    write!(out, "refused {}{}", u8::from(refusal), reason(refusal))
+pub fn refused<W: Write>(out: &mut W, refusal: u8) -> io::Result<()> {
+    write!(out, "refused {refusal}{}", reason(refusal))
 }
 
 // A block that came out, told from a column on. Answers the column behind it.

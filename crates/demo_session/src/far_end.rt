@@ -12,7 +12,7 @@ use refusals::Refusal;
 use std::io;
 use std::io::Write;
 
-#[derive(Drop)]
+#[derive(Clone, Copy)]
 pub struct FarEnd {
     receiver: Receiver,
     area: [u8; sizes::AREA_SIZE],
@@ -56,7 +56,7 @@ impl FarEnd {
     ) -> io::Result<()> {
         self.totals = self.totals.with_refused();
         self.broken = self.broken.with_all(blocks);
-        table::refused(out, refusal)
+        table::refused(out, u8::from(refusal))
     }
 
     // A frame is received, of which some bytes were repaired or none: its packets stand in the list.

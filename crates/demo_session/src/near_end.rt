@@ -11,7 +11,7 @@ use sender::Sender;
 use std::io;
 use std::io::Write;
 
-#[derive(Drop)]
+#[derive(Clone, Copy)]
 pub struct NearEnd {
     sender: Sender,
     queue: [u8; sizes::QUEUE_SIZE],
@@ -41,7 +41,7 @@ impl NearEnd {
                 self.put = number.wrapping_add(1);
                 table::put(out, number, block.len())
             }
-            Err(refusal) => table::not_put(out, number, refusal),
+            Err(refusal) => table::not_put(out, number, u8::from(refusal)),
         }
     }
 
@@ -97,7 +97,7 @@ impl NearEnd {
                     _ => table::idle(out),
                 }
             }
-            Err(refusal) => table::not_sent(out, refusal),
+            Err(refusal) => table::not_sent(out, u8::from(refusal)),
         }
     }
 

@@ -10,7 +10,7 @@ pub fn begun(body: &[u8], queue: &mut [u8]) -> Outcome {
 }
 
 // A seed and bytes: every byte of the queue, and of those behind it. They are the bytes given, and then those from the seed.
-pub fn in_full(body: &[u8], queue: &[u8; 32780]) -> Outcome {
+pub fn in_full(body: &[u8], queue: &[u8]) -> Outcome {
     let (seed, front) = record::front(body)?;
     let mut expected = [0; 32780];
     seeded::fill(u32::from_be_bytes(seed), &mut expected);

@@ -38,7 +38,7 @@ fn try_all<R: Read, W: Write>(input: &mut R, out: &mut W) -> io::Result<()> {
     kinds::print(out, &tally)?;
     writeln!(out, "planted check values {wrong_checks}")?;
     writeln!(out, "check values {checks}")?;
-    tally.print_totals(out, announced)
+    tally.print_totals(out, u64::from(announced))
 }
 
 fn main(rt: HostRuntime) -> io::Result<()> {

@@ -105,7 +105,7 @@ impl Tally {
     }
 
     // The last lines.
-    pub fn print_totals<W: Write>(&self, out: &mut W, announced: u32) -> io::Result<()> {
+    pub fn print_totals<W: Write>(&self, out: &mut W, announced: u64) -> io::Result<()> {
         let [total, planted] = self.totals;
         writeln!(out, "planted vectors {planted}")?;
         writeln!(
