@@ -17,8 +17,10 @@ pub trait Form {
     fn scramble(taps: u32, bytes: &mut [u8]);
 }
 
+#[derive(Clone, Copy)]
 pub struct Quick;
 
+#[derive(Clone, Copy)]
 pub struct Plain;
 
 // The quick form answers with what division leaves.

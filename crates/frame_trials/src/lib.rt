@@ -1,6 +1,6 @@
 // The kinds of record that try whole frames, and the repair of their bytes.
 #![tactic(auto)]
 
-mod frames;
+pub mod frames;
 pub mod kinds;
 mod repairs;

@@ -3,7 +3,7 @@
 #![tactic(auto)]
 
 mod arrivals;
-mod buffers;
+pub mod buffers;
 mod entries;
 pub mod kinds;
 mod states;

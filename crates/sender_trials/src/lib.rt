@@ -4,5 +4,5 @@
 
 mod calls;
 pub mod kinds;
-mod queues;
+pub mod queues;
 mod states;

@@ -14,7 +14,7 @@ fn is_planted(kind: u8) -> bool {
     PLANTED <= kind
 }
 
-#[derive(Drop)]
+#[derive(Clone, Copy)]
 pub struct Tally {
     // By kind.
     pub kinds: [Count; KINDS],
