@@ -12,7 +12,7 @@ fn gaps_before(number: u64, due: u64) -> u64
     u64::from(number != due)
 }
 
-// Where the newest run begins once a block has come, if it began at `first` before.
+// Where the newest run begins once a block has come, if it began at `first` before. An `if` that picks one of two numbers: no method says it plainer.
 fn first_with(number: u64, due: u64, first: u64) -> u64
     ensures { result ≡ (if nat_eq number due then first else number) }
 {
