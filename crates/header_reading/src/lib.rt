@@ -29,6 +29,7 @@ fn rules_hold(bytes: &[u8; 16]) -> bool
 }
 
 // 9 or 11 where the 16 bytes are refused, whatever their reserved bits.
+#[tactic(auto, unfolding(refusals::specs::Table::first_of, refusals::specs::Table::by, refusals::specs::Numbers::refusal_of))]
 pub fn judge(bytes: &[u8; 16]) -> Result<(), Refusal>
     ensures { result ≡ judged_by (first_of (header_table bytes.now)) }
 {
