@@ -47,6 +47,7 @@ pub fn header_part(body: &[u8; 2072]) -> &[u8; 16]
 }
 
 // 8, 9, 11 to 13: of a body as repaired, and whether a codeword was near its header and near each of its words.
+#[tactic(auto, unfolding(refusals::specs::Table::first_of, refusals::specs::Table::by, refusals::specs::Numbers::refusal_of))]
 pub fn judge_inside(header: bool, words: bool, body: &[u8; 2072]) -> Result<(), Refusal>
     ensures { result ≡ judged_by (first_of (repaired_table header words body.now)) }
 {
