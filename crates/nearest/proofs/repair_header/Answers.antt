@@ -1,6 +1,6 @@
 -- Behind its zeros the header is a word; the codeword near that is the header's where it changes none of them (`header_found`), and otherwise none is
 -- (`header_changed`, `header_missed`).
-use Rattle.std.proofs.Common.{◌≡◌, ℕ, Bool, true, false, List, Some, None, length, take, sym, ap, ◌∙◌, subst, rules, arith}
+use Rattle.std.proofs.Common.{◌≡◌, ℕ, Bool, true, false, List, ◌≤◌, Some, None, length, take, sym, ap, ◌∙◌, subst, rules, arith}
 use Rattle.std.proofs.Math.Seq.{length-take-le}
 use mathlib.Core.Bool.{false≢true}
 use Rattle.basics.specs.Lists.{Bytes, zeros, same}
@@ -21,15 +21,15 @@ returns-in_err-word c =
     let near : near_word (lengthened c.args.own) ≡ None = search rules in
     c.from_residual.ensures ∙ sym (header_missed c.args.own (search rules) near)
 
-front_long : (word : List ℕ) → length word ≡ 255 → length (take 223 word) ≡ 223
-front_long word long = length-take-le 223 word (omega (arith, long))
+front_long : (n : ℕ) (word : List ℕ) → n ≤ 255 → length word ≡ 255 → length (take n word) ≡ n
+front_long n word inside long = length-take-le n word (omega (arith, long, inside))
 
 -- the test of the bytes that are not sent, with their count
 tested : (word : List ℕ) (test : Bool) → length word ≡ 255 → same (take 223 word) (zeros (length (take 223 word))) ≡ test → same (take 223 word) (zeros 223) ≡ test
-tested word test long e = ap (λ n. same (take 223 word) (zeros n)) (sym (front_long word long)) ∙ e
+tested word test long e = ap (λ n. same (take 223 word) (zeros n)) (sym (front_long 223 word (omega arith) long)) ∙ e
 
 pub slice_bounds-are_zeros-end : goal.slice_bounds-are_zeros-end
-slice_bounds-are_zeros-end c = sym (front_long c.in_ok-word.word (search rules))
+slice_bounds-are_zeros-end c = sym (front_long _ c.in_ok-word.word (omega arith) (search rules))
 
 pub returns-then-not-are_zeros : goal.returns-then-not-are_zeros
 returns-then-not-are_zeros c =
