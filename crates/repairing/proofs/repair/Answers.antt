@@ -58,7 +58,7 @@ returns-then-near-ne0 c =
     let known = after_body (goal.at.returns-then-near-ne0 c).After-judge_near in
     let none = passed _ _ _ (sym c.in_ok-judge_near.was ∙ c.judge_near.ensures ∙ ap judged_by known.number) in
     let written_whole = c.write_scrambled.ensures ∙ ap (written c.args.scratch.now 0) known.whole in
-    let some = ap (λ n. eqb n 0) (sym known.wrong) ∙ ne_eqb _ _ c.if-near-ne0.true in
+    let some = ap (λ n. eqb n 0) (sym known.wrong) ∙ ne_eqb _ _ (λ z. omega (arith, c.if-near-ne0.true, z)) in
     record {
       answer = answered _ _ _ none known.wrong;
       bytes = stands _ _ _ _ none (written_whole ∙ sym (ap (λ b. cond b c.args.scratch.now (written c.args.scratch.now 0 (repaired c.args.taps c.args.part.now))) some));
@@ -68,7 +68,7 @@ pub returns-else-near-ne0 : goal.returns-else-near-ne0
 returns-else-near-ne0 c =
     let known = after_body (goal.at.returns-else-near-ne0 c).After-judge_near in
     let none = passed _ _ _ (sym c.in_ok-judge_near.was ∙ c.judge_near.ensures ∙ ap judged_by known.number) in
-    let clean = ap (λ n. eqb n 0) (sym known.wrong) ∙ eq-eqb _ _ c.if-near-ne0.false in
+    let clean = ap (λ n. eqb n 0) (sym known.wrong) ∙ eq-eqb _ _ (omega (arith, c.if-near-ne0.false)) in
     record {
       answer = answered _ _ _ none known.wrong;
       bytes = stands _ _ _ _ none (sym (ap (λ b. cond b c.args.scratch.now (written c.args.scratch.now 0 (repaired c.args.taps c.args.part.now))) clean));
