@@ -12,7 +12,6 @@ use basics::sizes;
 use counts::Txfn;
 use header::{FrameKind, Header, coding};
 use joining::fitting;
-use joining::growing::Joined;
 use refusals::Refusal;
 
 // The number that the next frame should have, none before the first frame; and how many bytes of the hold are held.
@@ -123,16 +122,19 @@ pub fn apply(
     let missed = missed_before(receiver.expected, header.txfn);
     let held = held_after(missed, receiver.held);
     judge_opened(header, area, &hold[..held])?;
-    let joined = if header.kind == FrameKind::Data {
-        joining::join(area, held, hold, list)
-    } else {
-        Joined {
-            held,
+    let next = header.txfn.next();
+    if header.kind != FrameKind::Data {
+        return Ok(Applied {
+            missed,
             packets: 0,
             listed: 0,
-        }
-    };
-    let next = header.txfn.next();
+            receiver: Receiver {
+                expected: Some(next),
+                held,
+            },
+        });
+    }
+    let joined = joining::join(area, held, hold, list);
     Ok(Applied {
         missed,
         packets: joined.packets,
