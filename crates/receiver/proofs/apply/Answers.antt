@@ -32,4 +32,5 @@ pub returns : goal.returns
 returns c =
     let k =
     judged c.args.header c.args.area.now c.args.receiver c.args.hold.now c.args.list.now (sym c.in_ok-judge_buffers.was ∙ c.judge_buffers.ensures) c.missed_before-missed.ensures c.held_after-held.ensures in
-    data_done k (passed _ _ _ (sym c.in_ok-judge_opened.was ∙ c.judge_opened.ensures)) c.next-next.ensures (data_tested c.args.header.kind ∙ not-false _ (sym c.ne.ensures ∙ c.if-ne.false)) c.join-joined.ensures
+    let tested = data_tested c.args.header.kind ∙ not-false _ (sym c.ne.ensures ∙ c.if-ne.false) in
+    data_done k (passed _ _ _ (sym c.in_ok-judge_opened.was ∙ c.judge_opened.ensures)) c.next-next.ensures tested c.join-joined.ensures
