@@ -2,6 +2,7 @@
 #![tactic(auto)]
 
 ghost use Rattle.std.specs.Prelude.{◌≡◌, cond, eqb};
+ghost use Rattle.basics.specs.Counts.{next_txfn};
 ghost use Rattle.header.specs.declared.FrameKind.TheVariants.{Idle, Data};
 ghost use Rattle.refusals.specs.Numbers.{judged_by};
 ghost use Rattle.sending.specs.Next.{next_refusal, NextOutcome};
@@ -47,6 +48,14 @@ fn kind_for(used: usize) -> FrameKind
     }
 }
 
+// The sender after a frame: what is left waits, and TXFN steps for every type.
+fn sender_after(sender: Sender, left: Sender) -> Sender
+    ensures { (result.start ≡ left.start) × (result.used ≡ left.used) × (result.next.0 ≡ next_txfn sender.next.0) }
+{
+    let next = sender.next.next();
+    Sender { next, ..left }
+}
+
 // Builds the next frame at the front of out, and takes what it carries off the ring. TXFN steps for every type. Refusals: 1, 2, 3, 6.
 #[tactic(auto, using(crate::proofs::Sending::next_judged), unfolding(refusals::specs::Table::by))]
 pub fn next_frame(
@@ -68,9 +77,8 @@ pub fn next_frame(
         fields,
     };
     frame::build(taps, header, &area, out);
-    let next = sender.next.next();
     Ok(Sent {
-        sender: Sender { next, ..left },
+        sender: sender_after(sender, left),
         kind: header.kind,
     })
 }

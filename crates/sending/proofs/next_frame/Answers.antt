@@ -22,9 +22,10 @@ returns c =
     let p = next_judged {out = given.out.now} judged in
     let kind = c.kind_for.ensures ∙ kind_is given.sender p (bytes_each given.queue.now (λ i. search rules)) in
     let freed = freed_is given.sender p c.fill-filled.ensures c.free_front-left.ensures in
+    let after = c.sender_after.ensures in
     let header : FrameKind → Header = λ k. record { txfn = given.sender.next; kind = k; fields = given.fields } in
     record {
-      answer = answered _ _ _ none (sent_path freed.begins freed.count c.next-next.ensures kind);
+      answer = answered _ _ _ none (sent_path (after.0 ∙ freed.begins) (after.1 ∙ freed.count) after.2 kind);
       bytes = stands _ _ _ _ none freed.bytes;
       frame = stands _ _ _ _ none
           (c.build.ensures
