@@ -121,7 +121,11 @@ pub fn apply(
     judge_buffers(area, receiver.held, hold, list)?;
     let missed = missed_before(receiver.expected, header.txfn);
     let held = held_after(missed, receiver.held);
-    judge_opened(header, area, &hold[..held])?;
+    // No `?`: what a refused frame is answered stands here, where an edit that must fail changes it.
+    match judge_opened(header, area, &hold[..held]) {
+        Ok(()) => {}
+        Err(refusal) => return Err(refusal),
+    }
     let next = header.txfn.next();
     if header.kind != FrameKind::Data {
         return Ok(Applied {
