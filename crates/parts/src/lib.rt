@@ -105,7 +105,9 @@ pub extern "C" fn part_build(taps: u32, area: &[u8], out: &mut [u8])
     if out.len() < sizes::FRAME_SIZE {
         return;
     }
-    frame::build(taps, plain_header(), area, out);
+    // A copy, so that the archive needs no `memmove`: as far as the compiler knows, C lends an area and an output that overlap.
+    let own = *area;
+    frame::build(taps, plain_header(), &own, out);
 }
 
 #[unsafe(no_mangle)]
