@@ -3,7 +3,10 @@
 
 mod judging;
 
-ghost use Rattle.opening.specs.Opening.{OpenOutcome};
+ghost use Rattle.std.specs.Prelude.{◌≡◌, ◌≤◌, length, IfOk, IsErr};
+ghost use Rattle.basics.specs.Sizes.{area_size};
+ghost use Rattle.lent.specs.Written.{written};
+ghost use Rattle.opening.specs.Opening.{area_part, OpenOutcome};
 
 use header::Header;
 use refusals::Refusal;
@@ -26,10 +29,23 @@ pub fn open(taps: u32, frame: &[u8], area: &mut [u8]) -> Result<Opened, Refusal>
     let mut body = [0; 2072];
     judging::unscramble(taps, frame, &mut body);
     let near = body::repair_body(&mut body);
-    judging::judge_inside(near.header, near.words, &body)?;
-    lent::write_at(area, 0, &body[32..judging::AREA_END]);
+    let judged = judging::judge_inside(near.header, near.words, &body);
+    write_area(judged, &body, area);
+    judged?;
     Ok(Opened {
         header: header_reading::header_of(judging::header_part(&body)),
         repaired: near.wrong,
     })
+}
+
+// Writes the area that follows the coded header to the front of the buffer, where the frame is not refused.
+fn write_area(judged: Result<(), Refusal>, body: &[u8; 2072], area: &mut [u8])
+    requires { area_size ≤ length area.old }
+    ensures written { IfOk judged (λ done. area.new ≡ written area.old 0 (area_part body.now)) }
+    ensures kept { IsErr judged → area.new ≡ area.old }
+{
+    match judged {
+        Ok(()) => lent::write_at(area, 0, &body[32..judging::AREA_END]),
+        Err(_) => {}
+    }
 }

@@ -3,7 +3,7 @@
 
 pub mod body;
 
-ghost use Rattle.std.specs.Prelude.{◌≡◌, [], ◌∷◌, ◌≤◌, length, take};
+ghost use Rattle.std.specs.Prelude.{◌≡◌, [], ◌∷◌, ◌≤◌, length, take, cond, eqb, IfOk, IsErr};
 ghost use Rattle.refusals.specs.Numbers.{judged_by};
 ghost use Rattle.refusals.specs.Table.{◌unless◌, first_of};
 ghost use Rattle.lent.specs.Written.{written};
@@ -22,10 +22,9 @@ pub fn repair(taps: u32, part: &[u8], scratch: &mut [u8]) -> Result<u8, Refusal>
     body.copy_from_slice(part);
     scrambler::scramble(taps, &mut body);
     let near = body::repair_body(&mut body);
-    judge_near(near.header, near.words)?;
-    if near.wrong != 0 {
-        write_scrambled(taps, body, scratch);
-    }
+    let judged = judge_near(near.header, near.words);
+    write_repaired(judged, near.wrong, taps, body, scratch);
+    judged?;
     Ok(near.wrong)
 }
 
@@ -55,6 +54,28 @@ fn judge_near(header: bool, words: bool) -> Result<(), Refusal>
         return Err(Refusal::PayloadCode);
     }
     Ok(())
+}
+
+// Writes the repaired body, scrambled again, to the front of the scratch, where nothing is refused and something was wrong.
+fn write_repaired(
+    judged: Result<(), Refusal>,
+    wrong: u8,
+    taps: u32,
+    body: [u8; 2072],
+    scratch: &mut [u8],
+)
+    requires { 2072 ≤ length scratch.old }
+    ensures written { IfOk judged (λ done. scratch.new ≡ cond (eqb wrong 0) scratch.old (written scratch.old 0 (scrambled taps body))) }
+    ensures kept { IsErr judged → scratch.new ≡ scratch.old }
+{
+    match judged {
+        Ok(()) => {
+            if wrong != 0 {
+                write_scrambled(taps, body, scratch);
+            }
+        }
+        Err(_) => {}
+    }
 }
 
 // Writes a body, scrambled again, to the front of the scratch.

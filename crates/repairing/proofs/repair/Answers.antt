@@ -1,5 +1,5 @@
 -- What is refused is refused by the table (`outer_judged`, `inner_is`); the count is the body's (`count_is`), and the scratch goes by both.
-use Rattle.std.proofs.Common.{◌≡◌, [], ◌∷◌, cond, eqb, Err, rules, sym, ap, ◌∙◌, arith, eq-eqb, ne_eqb}
+use Rattle.std.proofs.Common.{◌≡◌, [], ◌∷◌, cond, eqb, Err, refl, rules, sym, ap, ◌∙◌, arith}
 use Rattle.refusals.specs.Numbers.{judged_by}
 use Rattle.refusals.specs.Table.{◌unless◌, first_of}
 use Rattle.refusals.proofs.Numbers.{passed, refused, kept, answered, stands}
@@ -8,7 +8,7 @@ use Rattle.scrambler.specs.Scrambler.{scrambled}
 use Rattle.repairing.specs.Repairing.{repaired, repair_refusal, wrong_bytes}
 use Rattle.repairing.proofs.Laws.{Ready, outer_judged, outer_passed, inner_is, count_is, repaired_is}
 use Rattle.repairing.proofs.repair.Goals as goal
-use Rattle.repairing.proofs.repair.Goals.{In_ok-judge_outer, After-judge_near}
+use Rattle.repairing.proofs.repair.Goals.{In_ok-judge_outer, After-judge_near-judged}
 
 pub returns-in_err-judge_outer : goal.returns-in_err-judge_outer
 returns-in_err-judge_outer c =
@@ -23,13 +23,13 @@ pub copy_from_slice-requires : goal.copy_from_slice-requires
 copy_from_slice-requires c = omega (arith, (ready (goal.at.copy_from_slice-requires c).In_ok-judge_outer).long)
 
 -- what the judge of the body goes by, how many bytes were wrong, and what is written where some were
-record Repaired (c : After-judge_near) : Type 0 where
+record Repaired (c : After-judge_near-judged) : Type 0 where
   number : first_of (8 unless c.repair_body-near.result.header ∷ 12 unless c.repair_body-near.result.words ∷ [])
       ≡ repair_refusal c.args.taps c.args.part.now c.args.scratch.now
   wrong : c.repair_body-near.result.wrong ≡ wrong_bytes c.args.taps c.args.part.now
   whole : scrambled c.args.taps c.repair_body-near.new.body ≡ repaired c.args.taps c.args.part.now
 
-after_body : (c : After-judge_near) → Repaired c
+after_body : (c : After-judge_near-judged) → Repaired c
 after_body c =
     let taps = c.args.taps in
     let part = c.args.part.now in
@@ -43,33 +43,25 @@ after_body c =
       whole = repaired_is taps part long _ is _ (ap (scrambled taps) near.ensures.bytes);
     }
 
-pub returns-in_err-judge_near : goal.returns-in_err-judge_near
-returns-in_err-judge_near c =
-    let known = after_body (goal.at.returns-in_err-judge_near c).After-judge_near in
-    let judged = sym c.in_err-judge_near.was ∙ c.judge_near.ensures ∙ ap judged_by known.number in
-    let same : c.from_residual-in_err-judge_near.result ≡ Err c.in_err-judge_near.field-0.0 = search rules in
-    record { answer = same ∙ refused _ _ _ _ judged; bytes = kept _ _ _ _ _ judged }
+pub write_repaired-requires : goal.write_repaired-requires
+write_repaired-requires c = (ready (goal.at.write_repaired-requires c).In_ok-judge_outer).room
 
-pub write_scrambled-requires : goal.write_scrambled-requires
-write_scrambled-requires c = (ready (goal.at.write_scrambled-requires c).In_ok-judge_outer).room
+pub returns-in_err-judged : goal.returns-in_err-judged
+returns-in_err-judged c =
+    let known = after_body (goal.at.returns-in_err-judged c).After-judge_near-judged in
+    let judged = sym c.in_err-judged.was ∙ c.judge_near-judged.ensures ∙ ap judged_by known.number in
+    let same : c.from_residual-in_err-judged.result ≡ Err c.in_err-judged.field-0.0 = search rules in
+    let unwritten = rw c.in_err-judged.was at c.write_repaired.ensures.kept in
+    record { answer = same ∙ refused _ _ _ _ judged; bytes = unwritten refl ∙ kept _ _ _ _ _ judged }
 
-pub returns-then-near-ne0 : goal.returns-then-near-ne0
-returns-then-near-ne0 c =
-    let known = after_body (goal.at.returns-then-near-ne0 c).After-judge_near in
-    let none = passed _ _ _ (sym c.in_ok-judge_near.was ∙ c.judge_near.ensures ∙ ap judged_by known.number) in
-    let written_whole = c.write_scrambled.ensures ∙ ap (written c.args.scratch.now 0) known.whole in
-    let some = ap (λ n. eqb n 0) (sym known.wrong) ∙ ne_eqb _ _ (λ z. omega (arith, c.if-near-ne0.true, z)) in
+pub returns : goal.returns
+returns c =
+    let known = after_body (goal.at.returns c).After-judge_near-judged in
+    let none = passed _ _ _ (sym c.in_ok-judged.was ∙ c.judge_near-judged.ensures ∙ ap judged_by known.number) in
+    let scratch = c.args.scratch.now in
+    let whole = rw c.in_ok-judged.was at c.write_repaired.ensures.written in
     record {
       answer = answered _ _ _ none known.wrong;
-      bytes = stands _ _ _ _ none (written_whole ∙ sym (ap (λ b. cond b c.args.scratch.now (written c.args.scratch.now 0 (repaired c.args.taps c.args.part.now))) some));
-    }
-
-pub returns-else-near-ne0 : goal.returns-else-near-ne0
-returns-else-near-ne0 c =
-    let known = after_body (goal.at.returns-else-near-ne0 c).After-judge_near in
-    let none = passed _ _ _ (sym c.in_ok-judge_near.was ∙ c.judge_near.ensures ∙ ap judged_by known.number) in
-    let clean = ap (λ n. eqb n 0) (sym known.wrong) ∙ eq-eqb _ _ (omega (arith, c.if-near-ne0.false)) in
-    record {
-      answer = answered _ _ _ none known.wrong;
-      bytes = stands _ _ _ _ none (sym (ap (λ b. cond b c.args.scratch.now (written c.args.scratch.now 0 (repaired c.args.taps c.args.part.now))) clean));
+      bytes = stands _ _ _ _ none (whole ∙ ap (λ n. cond (eqb n 0) scratch (written scratch 0 (scrambled c.args.taps c.repair_body-near.new.body))) known.wrong
+          ∙ ap (λ part. cond (eqb (wrong_bytes c.args.taps c.args.part.now) 0) scratch (written scratch 0 part)) known.whole);
     }
