@@ -1,5 +1,5 @@
-// The table of frames, printed from left to right: each part begins at the column where the one before it ends. A refusal is told by its number, for any
-// number has its words: to take a `Refusal` would ask more.
+// The table of frames, printed from left to right: each part begins at the column where the one before it ends. A refusal is told by its number, whichever
+// it is: to take a `Refusal` would ask more of callers.
 use crate::ledger::Blocks;
 use refusals::Refusal;
 use std::io;
