@@ -9,18 +9,13 @@ use outcome::Outcome;
 // is seen. A frame at hand stands at the front of as many.
 pub type Lent = [u8; 2100];
 
-// A pattern, again and again. An empty one leaves zeros.
-fn repeated<const N: usize>(pattern: &[u8]) -> [u8; N] {
-    let mut bytes = [0u8; N];
-    for (byte, &given) in bytes.iter_mut().zip(pattern.iter().cycle()) {
+// An area, as a record holds it: a pattern that is repeated up to 1,908 bytes. An empty pattern leaves zeros.
+pub fn area(pattern: &[u8]) -> [u8; sizes::AREA_SIZE] {
+    let mut area = [0u8; sizes::AREA_SIZE];
+    for (byte, &given) in area.iter_mut().zip(pattern.iter().cycle()) {
         *byte = given;
     }
-    bytes
-}
-
-// An area, as a record holds it: a pattern that is repeated up to 1,908 bytes.
-pub fn area(pattern: &[u8]) -> [u8; sizes::AREA_SIZE] {
-    repeated(pattern)
+    area
 }
 
 // An area by its first bytes; behind them it has zeros.
@@ -32,12 +27,14 @@ pub fn zeros_behind(front: &[u8]) -> [u8; sizes::AREA_SIZE]
     area
 }
 
-// Lent bytes before a call.
+// Lent bytes before a call: four letters, 525 times.
 pub fn kept() -> Lent {
-    repeated(b"kept")
+    let mut lent = [0u8; 2100];
+    lent.as_chunks_mut::<4>().0.fill(*b"kept");
+    lent
 }
 
-// The same, with some bytes at the front; a function of its own, since it stands behind others than zeros and is longer.
+// The same, with some bytes at the front; a function of its own, since what stands behind them is not zeros, and is longer.
 pub fn kept_behind(front: &[u8]) -> Lent
     requires { length front.now ≤ 2100 }
 {
@@ -56,7 +53,7 @@ pub fn change(changes: &[u8], bytes: &mut [u8]) {
     }
 }
 
-// The digest of bytes after some changes, and the changes: they are made, and compared.
+// The digest of bytes after some changes, and the changes: they are made, and the digest is compared.
 pub fn change_outcome(body: &[u8], bytes: &mut [u8]) -> Outcome {
     let (expected, changes) = record::front::<8>(body)?;
     change(changes, bytes);
